@@ -1,0 +1,6 @@
+pub mod Codes
+pub mod Forms
+pub mod Plans
+pub mod Logs
+pub mod Readings
+pub mod Times

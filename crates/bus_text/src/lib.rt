@@ -1,0 +1,2 @@
+//! The pieces of which printed lines are made.
+#![tactic(auto)]
