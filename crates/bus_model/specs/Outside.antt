@@ -1,13 +1,14 @@
 -- Runs that are joined to something outside: blocks that another bus loads, and a second controller that takes control
 -- (data handed on and standby control are the project's own).
-use Rattle.std.specs.Prelude.{ℕ, ◌+◌, ◌-◌, max, Bool, ◌&&◌, ◌==◌, if◌then◌else◌, List, [], ◌∷◌, fold, reverse, find, filter_map, flat_map, Option, Some, None}
+use Rattle.std.specs.Prelude.{ℕ, ◌+◌, ◌-◌, max, ◌==◌, if◌then◌else◌, List, [], ◌∷◌, fold, reverse, find, filter_map, flat_map, Option, Some, None}
 use Rattle.bus_formats.specs.Plans.{StationData, PlanData}
 use Rattle.bus_formats.specs.Times.{dead_ticks}
 use Rattle.bus_formats.specs.declared.log.Delivery.{Delivery}
 use Rattle.bus_model.specs.Memory.{TimedLoad}
 use Rattle.bus_model.specs.Message.{Delivered}
 use Rattle.bus_model.specs.Run.{Run, Next, next_item, first_run, attempts_after, most_attempts, take_control}
-use Rattle.bus_model.specs.Starts.{Entry, agenda, first_origin, planned_start, start_of, settling_quiet}
+use Rattle.bus_model.specs.Starts.{Entry, agenda, first_origin, planned_start, start_of}
+use Rattle.bus_model.specs.Waits.{settling_quiet}
 use Rattle.bus_model.specs.Strikes.{ShownAnswer, burst_end}
 
 -- ---- one station on two buses

@@ -10,17 +10,13 @@ use Rattle.bus_base.specs.declared.samples.Drive.TheVariants.{Silent}
 use Rattle.bus_words.specs.declared.word.Word.{Word}
 use Rattle.bus_line.specs.Past.{Burst, ended_now, slot_now, end_of, rest_of, heard_within, end_since}
 use Rattle.bus_formats.specs.Plans.{TerminalData}
-use Rattle.bus_formats.specs.Times.{dead_ticks}
+use Rattle.bus_model.specs.Waits.{relay_wait}
 use Rattle.bus_model.specs.Memory.{Memory, TimedLoad, with_loads}
-use Rattle.bus_model.specs.Orders.{Duty, owes, promises, Taken, Obeyed, Order, last_order, obey, keep_promise, unkept}
+use Rattle.bus_model.specs.Orders.{Duty, owes, promises, Taken, Obeyed, Order, last_order, due_after, obey, keep_promise, unkept}
 use Rattle.bus_model.specs.Sending.{drive_sample}
 use Rattle.bus_model.specs.Hearing.{Moment, Hearing, heard_on, is_addressed, mark_on, Standing, at_rest, Handled, obeys, takes, runs_out}
 
 module _ (k : ℕ) (terminal : TerminalData) where
-  -- an answer begins after the dead ticks of its delay, counted from the end of the burst that it answers (response time, 4.3.3.8)
-  abbrev pub due_after : ℕ → ℕ
-  due_after end = end + dead_ticks terminal.delay
-
   -- a mark is from this tick on
   abbrev pub is_from : ℕ → Option ℕ → Bool
   is_from tick None = false
@@ -32,11 +28,11 @@ module _ (k : ℕ) (terminal : TerminalData) where
 
   -- an answer is given up: superseded, or the channel wasn't quiet before it was due
   abbrev pub given_up : List Sample → Standing → Bool
-  given_up past s = superseded s || heard_within past s.end (due_after s.end)
+  given_up past s = superseded s || heard_within past s.end (due_after terminal s.end)
 
   -- it is over: its channel was quiet for k + 1 ticks in a row from its first tick on
   abbrev pub is_over : List Sample → Standing → Bool
-  is_over past s = is_some (end_since k past (due_after s.end))
+  is_over past s = is_some (end_since k past (due_after terminal s.end))
 
   -- a channel is ignored from the first tick of the terminal's own transmission there to k + 1 quiet ticks in a row after it:
   -- whether it is in the tick to come
@@ -48,8 +44,8 @@ module _ (k : ℕ) (terminal : TerminalData) where
 
   abbrev pub drive_duty : List Sample → Standing → Duty → Drive
   drive_duty past s (owes words acceptance) =
-      if nat_lt (length past) (due_after s.end) || given_up past s || is_over past s then Silent
-      else drive_sample s.channel s.part words (length past - due_after s.end)
+      if nat_lt (length past) (due_after terminal s.end) || given_up past s || is_over past s then Silent
+      else drive_sample s.channel s.part words (length past - due_after terminal s.end)
   drive_duty past s _ = Silent
 
   -- what is driven in the tick to come
@@ -75,16 +71,13 @@ module _ (k : ℕ) (terminal : TerminalData) where
   abbrev pub promised_on : Standing → Channel → Bool
   promised_on s c = is_promise s.duty && same_channel s.channel c && not (superseded s)
 
-  abbrev pub longest_wait : ℕ
-  longest_wait = 30
-
   -- a whole burst with an addressed slot is a command, unless a newer one came on the other channel (4.4.3.2); another burst may
   -- be the one that was promised
   abbrev pub order_by : Standing → Channel → Burst → Option Order → Option Handled
   order_by s c burst (Some last) =
       if outrun s c then None else Some (obeys c (end_of burst) last (rest_of burst))
   order_by s c burst None =
-      if promised_on s c && nat_le burst.first (s.end + longest_wait) then Some (takes (end_of burst) burst.slots (rest_of burst))
+      if promised_on s c && nat_le burst.first (s.end + relay_wait) then Some (takes (end_of burst) burst.slots (rest_of burst))
       else None
 
   abbrev pub order_of : Standing → Channel → Option Burst → Option Handled
@@ -101,7 +94,7 @@ module _ (k : ℕ) (terminal : TerminalData) where
   -- the promise runs out with the 31st quiet tick
   abbrev pub running_out : List Moment → Standing → Option Handled
   running_out past s =
-      if promised_on s s.channel && (length past == suc (s.end + longest_wait))
+      if promised_on s s.channel && (length past == suc (s.end + relay_wait))
           && not (heard_within (heard_on s.channel past) s.end (length past))
       then Some runs_out else None
 
@@ -141,7 +134,7 @@ module _ (k : ℕ) (terminal : TerminalData) where
   -- an answer begins in the tick to come
   abbrev pub begins : List Moment → Standing → Bool
   begins past s =
-      is_owed s.duty && (length past == due_after s.end) && not (given_up (heard_on s.channel past) s)
+      is_owed s.duty && (length past == due_after terminal s.end) && not (given_up (heard_on s.channel past) s)
 
   abbrev pub sent_on : List Moment → Standing → Channel → Option ℕ
   sent_on past s c = if begins past s && same_channel s.channel c then Some (length past) else mark_on s.sent c
@@ -213,7 +206,7 @@ module _ (k : ℕ) (terminal : TerminalData) where
 
     abbrev pub accepted_by : List Sample → Sample → Standing → Duty → Option ℕ
     accepted_by past now s (owes words true) =
-        if given_up past s then None else heard_status (due_after s.end) (ended_now k (now ∷ past))
+        if given_up past s then None else heard_status (due_after terminal s.end) (ended_now k (now ∷ past))
     accepted_by past now s _ = None
 
     abbrev pub accepted_on : Moment → List Moment → Standing → Option ℕ
