@@ -25,17 +25,17 @@ pub record Passing : Type 0 where
 pub record Ending : Type 0 where
   pub ended : Ended
   pub tick : ℕ
-  pub left : Option ShownAnswer
+  pub runs_on : Option ShownAnswer
   pub passes : Option Passing
 
 abbrev pub ends_so : Ended → ℕ → Ending
-ends_so ended tick = record { ended = ended; tick = tick; left = None; passes = None }
+ends_so ended tick = record { ended = ended; tick = tick; runs_on = None; passes = None }
 
 abbrev pub ends : Outcome → Option ℕ → Option ℕ → ℕ → Ending
 ends outcome first second tick = ends_so (without_words outcome first second) tick
 
 abbrev pub abandoned : ℕ → ShownAnswer → Ending
-abandoned tick answer = record (ends Abandoned None None tick) { left = Some answer }
+abandoned tick answer = record (ends Abandoned None None tick) { runs_on = Some answer }
 
 abbrev pub passed : Outcome → Option ℕ → ℕ → ShownAnswer → Ending
 passed outcome status tick answer = record (ends outcome status None tick) {

@@ -78,44 +78,44 @@ answer_to burst (after ∷ afters) = option_or (answer_for burst after after.dut
 
 module _ (k : ℕ) (loads : List TimedLoad) where
   -- the blocks taken of a burst, in the order of the stations, in the tick in which its end is known
-  abbrev pub taken_of : ShownBurst → List After → List Delivered
-  taken_of burst afters =
+  abbrev pub blocks_taken : ShownBurst → List After → List Delivered
+  blocks_taken burst afters =
       filter_map (λ after. option_map (delivered (burst_end burst + k) burst.channel after) after.taken) afters
 
   -- a terminal's memory in the tick in which the end of a burst is known
   abbrev pub memory_at : ShownBurst → Present → Memory
   memory_at burst station = with_loads (address_of_station station) (burst_end burst + k) loads station.memory
 
-  abbrev pub after_order : ShownBurst → Present → Option Order → After
-  after_order burst station (Some order) =
+  abbrev pub after_command_of : ShownBurst → Present → Option Order → After
+  after_command_of burst station (Some order) =
       moved station (obey station.plan.terminal (memory_at burst station) burst.channel
         order.command order.tail burst.rest (has_items station.left))
-  after_order burst station None = unmoved station
+  after_command_of burst station None = unmoved station
 
   -- a serving terminal obeys the last command of the burst that is for it
   abbrev pub after_command : ShownBurst → Present → After
   after_command burst station =
-      if station.serves then after_order burst station (last_order (address_of_station station) burst.slots)
+      if station.serves then after_command_of burst station (last_order (address_of_station station) burst.slots)
       else unmoved station
 
-  abbrev pub after_duty : ShownBurst → Present → Duty → After
-  after_duty burst station (promises command transmitter) =
+  abbrev pub after_answer_of : ShownBurst → Present → Duty → After
+  after_answer_of burst station (promises command transmitter) =
       moved station (keep_promise station.plan.terminal (memory_at burst station) burst.channel
         command transmitter burst.slots burst.rest)
-  after_duty burst station _ = unmoved station
+  after_answer_of burst station _ = unmoved station
 
   -- a terminal that promised takes the answer for its promise
   abbrev pub after_answer : ShownBurst → After → After
-  after_answer burst after = after_duty burst after.station after.duty
+  after_answer burst after = after_answer_of burst after.station after.duty
 
-  abbrev pub after_no_duty : ShownBurst → Present → Duty → After
-  after_no_duty burst station (promises command transmitter) =
+  abbrev pub after_silence_of : ShownBurst → Present → Duty → After
+  after_silence_of burst station (promises command transmitter) =
       moved station (unkept station.plan.terminal station.memory burst.channel)
-  after_no_duty burst station _ = unmoved station
+  after_silence_of burst station _ = unmoved station
 
   -- where no answer to the command is shown, promises run out
   abbrev pub after_silence : ShownBurst → After → After
-  after_silence burst after = after_no_duty burst after.station after.duty
+  after_silence burst after = after_silence_of burst after.station after.duty
 
 -- ---- a message with all that it shows
 
@@ -133,9 +133,9 @@ command_burst channel start hits item =
     record { channel = channel; start = start; slots = struck hits (command_words item.kind); rest = 0 }
 
 -- what is shown of an answer abandoned before, beside this command
-abbrev pub old_bursts : Option ShownAnswer → ShownBurst → List ShownBurst
-old_bursts None command = []
-old_bursts (Some old) command = beside_command command old ∷ []
+abbrev pub abandoned_bursts : Option ShownAnswer → ShownBurst → List ShownBurst
+abandoned_bursts None command = []
+abandoned_bursts (Some old) command = beside_command command old ∷ []
 
 -- what is shown of the answers; one that runs on is shown with the message that supersedes it
 abbrev pub answer_bursts : Option ShownAnswer → Option ShownAnswer → Option ShownAnswer → List ShownBurst
@@ -143,14 +143,14 @@ answer_bursts None first second = map (λ a. a.burst) (option_to_list first ++ o
 answer_bursts (Some left) first second = []
 
 module _ (k : ℕ) (loads : List TimedLoad) (faults : List Fault)
-    (attempt : ℕ) (item : ItemData) (old : Option ShownAnswer) where
+    (attempt : ℕ) (item : ItemData) (runs_on : Option ShownAnswer) where
   abbrev pub ended_message :
     ShownBurst → List Delivered → List After → Option ShownAnswer → Option ShownAnswer → Ending → Message
   ended_message command deliveries settled first second ending = record {
     ending = ending;
     stations = map (λ after. after.station) settled;
     deliveries = deliveries;
-    bursts = old_bursts old command ++ (command ∷ answer_bursts ending.left first second);
+    bursts = abandoned_bursts runs_on command ++ (command ∷ answer_bursts ending.runs_on first second);
     counted = is_counted item.kind first;
   }
 
@@ -161,13 +161,13 @@ module _ (k : ℕ) (loads : List TimedLoad) (faults : List Fault)
   -- the first answer settled each promise; a relay's receiver may answer it
   abbrev pub message_settled : ShownBurst → List After → ShownAnswer → List After → Message
   message_settled command ordered first settled =
-      message_by command (taken_of k loads command ordered ++ taken_of k loads first.burst settled) settled (Some first)
+      message_by command (blocks_taken k loads command ordered ++ blocks_taken k loads first.burst settled) settled (Some first)
         (shown_answer (hits_on faults attempt Second) (answer_to first.burst settled))
 
   -- each terminal obeyed the command; an answer to it is shown, or none
   abbrev pub message_obeyed : ShownBurst → List After → Option ShownAnswer → Message
   message_obeyed command ordered None =
-      message_by command (taken_of k loads command ordered) (map (after_silence k loads command) ordered) None None
+      message_by command (blocks_taken k loads command ordered) (map (after_silence k loads command) ordered) None None
   message_obeyed command ordered (Some first) =
       message_settled command ordered first (map (after_answer k loads first.burst) ordered)
 
@@ -176,7 +176,7 @@ module _ (k : ℕ) (loads : List TimedLoad) (faults : List Fault)
       message_obeyed command ordered (shown_answer (hits_on faults attempt First) (answer_to command ordered))
 
   -- the message of the attempt with this number, by the stations before it: its command is shown from the start on
-  abbrev pub message : Channel → ℕ → List Present → Message
+  unfoldable pub message : Channel → ℕ → List Present → Message
   message channel start stations =
       message_sent (command_burst channel start (hits_on faults attempt Command) item)
         (map (after_command k loads (command_burst channel start (hits_on faults attempt Command) item)) stations)

@@ -69,7 +69,7 @@ abbrev pub run_out : Option ShownAnswer → Run → Run
 run_out None run = run
 run_out (Some answer) run = record run {
   quiet_from = max run.quiet_from (burst_end answer.burst);
-  old = None;
+  runs_on = None;
   bursts = answer.burst ∷ run.bursts;
 }
 
@@ -87,11 +87,11 @@ module _ (k : ℕ) (plan : PlanData) where
   stop_tick attempt = stop_by (primary_run attempt) (next_item (primary_run attempt))
 
   -- the standby takes control after the silence; the primary, stopped or still holding control, hears nothing
-  abbrev pub taken_over : ℕ → Run → Run
-  taken_over standby run = take_control standby (run.quiet_from + silence plan) run
+  abbrev pub after_takeover : ℕ → Run → Run
+  after_takeover standby run = take_control standby (run.quiet_from + silence plan) run
 
   -- the run of a plan whose primary stops at the attempt with this number
   unfoldable pub standby_run : ℕ → ℕ → Run
   standby_run standby attempt =
       attempts_after k [] plan.faults (most_attempts plan)
-        (taken_over standby (run_out (primary_run attempt).old (primary_run attempt)))
+        (after_takeover standby (run_out (primary_run attempt).runs_on (primary_run attempt)))

@@ -27,7 +27,7 @@ pub record Run : Type 0 where
   pub retry : Option RetryState
   pub origin : Origin
   pub quiet_from : ℕ
-  pub old : Option ShownAnswer
+  pub runs_on : Option ShownAnswer
   pub attempts : List Attempt
   pub deliveries : List Delivered
   pub bursts : List ShownBurst
@@ -103,7 +103,7 @@ with_message run begun choice m =
       retry = retry_by choice;
       origin = run.origin;
       quiet_from = quiet_after m.bursts;
-      old = m.ending.left;
+      runs_on = m.ending.runs_on;
       attempts = recorded run.holder begun m.ending.ended m.ending.tick (finishes choice) ∷ run.attempts;
       deliveries = reverse m.deliveries ++ run.deliveries;
       bursts = reverse m.bursts ++ run.bursts;
@@ -119,7 +119,7 @@ module _ (k : ℕ) (loads : List TimedLoad) (faults : List Fault) where
   abbrev pub begun_attempt : Run → Begun → Run
   begun_attempt run begun =
       ended_attempt run begun
-        (message k loads faults (suc (length run.attempts)) begun.entry.item run.old begun.state.channel begun.start run.stations)
+        (message k loads faults (suc (length run.attempts)) begun.entry.item run.runs_on begun.state.channel begun.start run.stations)
 
   abbrev pub next_attempt : Run → Option Next → Run
   next_attempt run None = run
@@ -140,8 +140,9 @@ module _ (k : ℕ) (loads : List TimedLoad) (faults : List Fault) where
 
 -- ---- the whole run
 
-abbrev pub present : PlanData → StationData → Present
-present plan station = record {
+-- a station before the first attempt
+abbrev pub first_present : PlanData → StationData → Present
+first_present plan station = record {
   plan = station;
   memory = first_memory station.terminal;
   left = agenda station;
@@ -152,13 +153,13 @@ present plan station = record {
 -- before the first attempt
 abbrev pub first_run : PlanData → Run
 first_run plan = record {
-  stations = map (present plan) plan.stations;
+  stations = map (first_present plan) plan.stations;
   holder = plan.start;
   opening = first_opening;
   retry = None;
   origin = first_origin;
   quiet_from = 0;
-  old = None;
+  runs_on = None;
   attempts = [];
   deliveries = [];
   bursts = [];
