@@ -107,8 +107,14 @@ with_takes (take ∷ takes) heard c =
 
 abbrev pub at_first : StationData → Bool → Course
 at_first station starts = record {
-  ended = []; runs = None; holds = starts; left = agenda station; retry = None; live = station.channel;
-  origin = first_origin; opening = first_opening;
+  ended = [];
+  runs = None;
+  holds = starts;
+  left = agenda station;
+  retry = None;
+  live = station.channel;
+  origin = first_origin;
+  opening = first_opening;
 }
 
 -- a controller after what the channels showed; whether it starts with control, and when it takes control
@@ -116,7 +122,7 @@ unfoldable pub course : ℕ → StationData → Bool → List Take → List Pair
 course k station starts takes [] = with_takes takes 0 (at_first station starts)
 course k station starts takes (shown ∷ past) =
     with_takes takes (suc (length past))
-      (run_on k shown past (course k station starts takes past) (runs_next past (course k station starts takes past)))
+    (run_on k shown past (course k station starts takes past) (runs_next past (course k station starts takes past)))
 
 abbrev pub drive_by : ℕ → List Pair → Option Begun → Drive
 drive_by k past None = Silent

@@ -62,7 +62,7 @@ module _ (k : ℕ) (kind : Kind) where
   good_ending status first second (Some shape) = second_ending status (burst_end first.burst) second
   good_ending status first second None =
       ends_so (record (without_words Clear (Some status) None) { words = kept_words kind first.burst.slots })
-        (burst_end first.burst + k)
+      (burst_end first.burst + k)
 
   -- an offer that was answered badly: where the answer accepts, its terminal takes control, and the offerer hears that;
   -- else all is quiet

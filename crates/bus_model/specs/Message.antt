@@ -89,7 +89,7 @@ module _ (k : ℕ) (loads : List TimedLoad) where
   abbrev pub after_command_of : ShownBurst → Present → Option Order → After
   after_command_of burst station (Some order) =
       moved station (obey station.plan.terminal (memory_at burst station) burst.channel
-        order.command order.tail burst.rest (has_items station.left))
+      order.command order.tail burst.rest (has_items station.left))
   after_command_of burst station None = unmoved station
 
   -- a serving terminal obeys the last command of the burst that is for it
@@ -101,7 +101,7 @@ module _ (k : ℕ) (loads : List TimedLoad) where
   abbrev pub after_answer_of : ShownBurst → Present → Duty → After
   after_answer_of burst station (promises command transmitter) =
       moved station (keep_promise station.plan.terminal (memory_at burst station) burst.channel
-        command transmitter burst.slots burst.rest)
+      command transmitter burst.slots burst.rest)
   after_answer_of burst station _ = unmoved station
 
   -- a terminal that promised takes the answer for its promise
@@ -145,7 +145,7 @@ answer_bursts (Some left) first second = []
 module _ (k : ℕ) (loads : List TimedLoad) (faults : List Fault)
     (attempt : ℕ) (item : ItemData) (runs_on : Option ShownAnswer) where
   abbrev pub ended_message :
-    ShownBurst → List Delivered → List After → Option ShownAnswer → Option ShownAnswer → Ending → Message
+      ShownBurst → List Delivered → List After → Option ShownAnswer → Option ShownAnswer → Ending → Message
   ended_message command deliveries settled first second ending = record {
     ending = ending;
     stations = map (λ after. after.station) settled;
@@ -162,7 +162,7 @@ module _ (k : ℕ) (loads : List TimedLoad) (faults : List Fault)
   abbrev pub message_settled : ShownBurst → List After → ShownAnswer → List After → Message
   message_settled command ordered first settled =
       message_by command (blocks_taken k loads command ordered ++ blocks_taken k loads first.burst settled) settled (Some first)
-        (shown_answer (hits_on faults attempt Second) (answer_to first.burst settled))
+      (shown_answer (hits_on faults attempt Second) (answer_to first.burst settled))
 
   -- each terminal obeyed the command; an answer to it is shown, or none
   abbrev pub message_obeyed : ShownBurst → List After → Option ShownAnswer → Message
@@ -179,4 +179,4 @@ module _ (k : ℕ) (loads : List TimedLoad) (faults : List Fault)
   unfoldable pub message : Channel → ℕ → List Present → Message
   message channel start stations =
       message_sent (command_burst channel start (hits_on faults attempt Command) item)
-        (map (after_command k loads (command_burst channel start (hits_on faults attempt Command) item)) stations)
+      (map (after_command k loads (command_burst channel start (hits_on faults attempt Command) item)) stations)

@@ -94,4 +94,4 @@ module _ (k : ℕ) (plan : PlanData) where
   unfoldable pub standby_run : ℕ → ℕ → Run
   standby_run standby attempt =
       attempts_after k [] plan.faults (most_attempts plan)
-        (after_takeover standby (run_out (primary_run attempt).runs_on (primary_run attempt)))
+      (after_takeover standby (run_out (primary_run attempt).runs_on (primary_run attempt)))

@@ -119,7 +119,7 @@ module _ (k : ℕ) (loads : List TimedLoad) (faults : List Fault) where
   abbrev pub begun_attempt : Run → Begun → Run
   begun_attempt run begun =
       ended_attempt run begun
-        (message k loads faults (suc (length run.attempts)) begun.entry.item run.runs_on begun.state.channel begun.start run.stations)
+      (message k loads faults (suc (length run.attempts)) begun.entry.item run.runs_on begun.state.channel begun.start run.stations)
 
   abbrev pub next_attempt : Run → Option Next → Run
   next_attempt run None = run

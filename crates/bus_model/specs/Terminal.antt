@@ -77,7 +77,7 @@ module _ (k : ℕ) (terminal : TerminalData) where
   abbrev pub running_out : List Moment → Standing → Option Handled
   running_out past s =
       if promised_on k s s.channel && (length past == suc (s.end + relay_wait))
-          && not (heard_within (heard_on s.channel past) s.end (length past))
+      && not (heard_within (heard_on s.channel past) s.end (length past))
       then Some runs_out else None
 
   -- what is handled in the newest tick, where s stood before it
@@ -111,7 +111,7 @@ module _ (k : ℕ) (terminal : TerminalData) where
   addressed_on [] s c = None
   addressed_on (now ∷ past) s c =
       if is_addressed terminal.address (slot_now k (heard_on c (now ∷ past)))
-          && not (ignored_from k (heard_on c past) (mark_on s.sent c))
+      && not (ignored_from k (heard_on c past) (mark_on s.sent c))
       then Some (length past) else mark_on s.addressed c
 
   -- s with what the newest tick marks, where before stood before it
