@@ -9,14 +9,12 @@ use Rattle.bus_base.specs.declared.samples.Sample.{Sample}
 use Rattle.bus_base.specs.declared.samples.Sample.TheVariants.{Plus, Minus, Quiet}
 use Rattle.bus_line.specs.declared.cutter.Cut.TheVariants as cuts
 use Rattle.bus_line.specs.declared.cutter.Cutter.{Cutter}
-use Rattle.bus_line.proofs.QuietSlots.{word-quiet}
+use Rattle.bus_line.proofs.SlotLaws.{reverse-more, newest-from, word-before}
+use Rattle.bus_line.proofs.CutNow.{now-idle, now-pending, now-ended, now-begins, now-pulse}
 use Rattle.bus_line.specs.Spelling.{word_in}
 use Rattle.bus_line.specs.Past.{quiet, samples_from, quiet_ticks, stopped, runs, first_tick, slot_word, newest_burst, burst_from, ended_now, slot_number, slot_between}
 use Rattle.bus_line.specs.Cutting.{Follows, begun, cut_of, cut_now, newest_samples}
 use Rattle.bus_line.proofs.PastLaws.{quiet-le, stopped-quiet, quiet-pulse, stopped-more, stopped-pulse, runs-parts, runs-from, rests-parts, rests-from, runs-pulse, rests-more, first_tick-runs, first_tick-begins, first_tick-lt}
-
-reverse-more : (x : Sample) (past : List Sample) → reverse (x ∷ past) ≡ reverse past ++ x ∷ []
-reverse-more x past = reverse-append (x ∷ []) past
 
 -- the samples kept, with one more
 kept-more : (m : ℕ) (samples past : List Sample) (x : Sample) → m < length samples → take m samples ≡ newest_samples m past →
@@ -61,37 +59,6 @@ new-stands k n samples forty =
       kept = λ low. absurd (omega arith);
     }
 
--- what a burst that is cut out has
-pub slots-count : (past : List Sample) (p n : ℕ) → length (burst_from past p n).slots ≡ n / 40
-unfolding burst_from
-slots-count past p n = length-map-range_with_len (slot_word past p) 0 (n / 40)
-
-pub burst-ticks : (past : List Sample) (p n : ℕ) → (burst_from past p n).ticks ≡ n
-unfolding burst_from
-burst-ticks past p n = refl
-
-pub burst-first : (past : List Sample) (p n : ℕ) → (burst_from past p n).first ≡ p
-unfolding burst_from
-burst-first past p n = refl
-
--- the samples of the newest n ticks
-newest-from : (past : List Sample) (p n : ℕ) → p + n ≡ length past → samples_from past p n ≡ newest_samples n past
-newest-from past p n here = let none : length past - (p + n) ≡ 0 = omega (arith, here) in rw none refl
-
-quiet-place : (past : List Sample) (j : ℕ) → j < quiet past → drop j past ≡ Quiet ∷ drop (suc j) past
-quiet-place [] j h = absurd (omega (arith, h))
-quiet-place (Plus ∷ past) j h = absurd (omega (arith, h))
-quiet-place (Minus ∷ past) j h = absurd (omega (arith, h))
-quiet-place (Quiet ∷ past) zero h = refl
-quiet-place (Quiet ∷ past) (suc j) h = quiet-place past j (omega (arith, h))
-
--- a slot whose last tick was quiet has no word
-word-before : (q j : ℕ) (x : Sample) (past : List Sample) → q + 40 + j ≡ length past → j < quiet past → word_in (samples_from (x ∷ past) q 40) ≡ None
-word-before q j x past here within =
-    let at : suc (length past) - (q + 40) ≡ suc j = omega (arith, here) in
-    let head : drop j past ≡ Quiet ∷ drop (suc j) past = quiet-place past j within in
-    rw (at, head, reverse-more Quiet (take 39 (drop (suc j) past))) (word-quiet (reverse (take 39 (drop (suc j) past))) [])
-
 module _ (k : ℕ) (c : Cutter) (past : List Sample) (s : Follows k c past) where
   -- ---- where no burst runs
 
@@ -99,12 +66,7 @@ module _ (k : ℕ) (c : Cutter) (past : List Sample) (s : Follows k c past) wher
   off idle = grind (arith, nat_tests, s.runs)
 
   pub idle-cut : k < c.quiet → cuts.Nothing ≡ cut_now k (Quiet ∷ past)
-  unfolding cut_now
-  idle-cut idle =
-      let same : stopped (Quiet ∷ past) ≡ stopped past = stopped-more past in
-      let rests : (stopped past ≡ 0) ⊎ (k < quiet past) = rests-parts k past (off idle) in
-      let none : ended_now k (Quiet ∷ past) ≡ None = grind (arith, nat_tests, same, rests) in
-      rw none refl
+  idle-cut idle = sym (now-idle k past (off idle))
 
   pub idle-stands : k < c.quiet → Follows k c (Quiet ∷ past)
   idle-stands idle =
@@ -121,12 +83,7 @@ module _ (k : ℕ) (c : Cutter) (past : List Sample) (s : Follows k c past) wher
       }
 
   pub begins-cut : (x : Sample) → k < c.quiet → is_quiet x ≡ false → cuts.Nothing ≡ cut_now k (x ∷ past)
-  unfolding cut_now
-  begins-cut x idle pulse =
-      let none : quiet (x ∷ past) ≡ 0 = quiet-pulse x past pulse in
-      let not_ended : ended_now k (x ∷ past) ≡ None = grind (arith, nat_tests, none) in
-      let no_slot : slot_number k (x ∷ past) ≡ None = rw (pulse, off idle) refl in
-      rw (not_ended, no_slot) refl
+  begins-cut x idle pulse = sym (now-begins k x past pulse (off idle))
 
   pub begins-stands : (x : Sample) → k < c.quiet → is_quiet x ≡ false → Follows k (begun c.samples x) (x ∷ past)
   begins-stands x idle pulse =
@@ -153,27 +110,16 @@ module _ (k : ℕ) (c : Cutter) (past : List Sample) (s : Follows k c past) wher
   ticks-of running = let here = s.here running in let same = s.quiet running in omega (arith, here, same)
 
   pub pending-cut : c.quiet + 1 ≤ k → cuts.Nothing ≡ cut_now k (Quiet ∷ past)
-  unfolding cut_now
-  pending-cut few =
-      let same : c.quiet ≡ quiet past = s.quiet (omega arith) in
-      let none : ended_now k (Quiet ∷ past) ≡ None = grind (arith, nat_tests, same, few) in
-      rw none refl
+  pending-cut few = let same : c.quiet ≡ quiet past = s.quiet (omega arith) in sym (now-pending k past (omega (arith, same, few)))
 
   pub ended-cut : c.quiet ≡ k → cuts.Ended c.slots c.rest ≡ cut_now k (Quiet ∷ past)
-  unfolding cut_now
   ended-cut all =
       let low : c.quiet ≤ k = omega arith in
       let same : c.quiet ≡ quiet past = s.quiet low in
-      let more : stopped (Quiet ∷ past) ≡ stopped past = stopped-more past in
-      let some : 0 < stopped past = (runs-parts k past (on low)).0 in
       let ticks : stopped past ≡ first_tick k past + (40 * c.slots + c.rest) = ticks-of low in
-      let ended : ended_now k (Quiet ∷ past) ≡ Some (newest_burst k (Quiet ∷ past)) = grind (arith, nat_tests, same, all, more, some) in
-      let long : stopped (Quiet ∷ past) - first_tick k past ≡ 40 * c.slots + c.rest = omega (arith, more, ticks) in
-      let count : length (newest_burst k (Quiet ∷ past)).slots ≡ c.slots =
-      slots-count (Quiet ∷ past) (first_tick k past) (stopped (Quiet ∷ past) - first_tick k past) ∙ omega (arith, long, s.short) in
-      let after : (newest_burst k (Quiet ∷ past)).ticks % 40 ≡ c.rest =
-      ap (λ n. n % 40) (burst-ticks (Quiet ∷ past) (first_tick k past) (stopped (Quiet ∷ past) - first_tick k past)) ∙ omega (arith, long, s.short) in
-      rw ended (rw (count, after) refl)
+      let slots : (stopped past - first_tick k past) / 40 ≡ c.slots = omega (arith, ticks, s.short) in
+      let rest : (stopped past - first_tick k past) % 40 ≡ c.rest = omega (arith, ticks, s.short) in
+      sym (now-ended k past (on low) (omega (arith, same, all)) ∙ (rw (slots, rest) refl))
 
   pub quiet-stands : (place : ℕ) → place ≡ c.rest + c.quiet → c.quiet ≤ k →
       Follows k record { samples = set c.samples (place % 40) Quiet; slots = c.slots; rest = c.rest; quiet = c.quiet + 1 } (Quiet ∷ past)
@@ -216,17 +162,12 @@ module _ (k : ℕ) (c : Cutter) (past : List Sample) (s : Follows k c past) wher
   pulse-cut : (x : Sample) (place : ℕ) (number : Option ℕ) → is_quiet x ≡ false → place ≡ c.rest + c.quiet → c.quiet ≤ k →
       slot_between (40 * c.slots + c.rest) (40 * c.slots + (place + 1)) ≡ number →
       cut_now k (x ∷ past) ≡ cut_of (x ∷ past) (first_tick k past) None number
-  unfolding cut_now
   pulse-cut x place number pulse at running is =
-      let none : quiet (x ∷ past) ≡ 0 = quiet-pulse x past pulse in
-      let not_ended : ended_now k (x ∷ past) ≡ None = grind (arith, nat_tests, none) in
       let here = s.here running in
       let ticks : stopped past ≡ first_tick k past + (40 * c.slots + c.rest) = ticks-of running in
       let before : stopped past - first_tick k past ≡ 40 * c.slots + c.rest = omega (arith, ticks) in
       let now : suc (length past) - first_tick k past ≡ 40 * c.slots + (place + 1) = omega (arith, here, at) in
-      let first : first_tick k (x ∷ past) ≡ first_tick k past = first_tick-runs k x past (on running) in
-      let slot : slot_number k (x ∷ past) ≡ number = rw (pulse, on running, before, now) is in
-      rw (not_ended, slot, first) refl
+      now-pulse k x past number pulse (on running) (rw (before, now) is)
 
   pub plain-cut : (x : Sample) (place : ℕ) → is_quiet x ≡ false → place ≡ c.rest + c.quiet → c.quiet ≤ k → place < 39 →
       cuts.Nothing ≡ cut_now k (x ∷ past)

@@ -5,12 +5,12 @@ use Rattle.std.proofs.lemmas.Bool.Decides.{nat_tests}
 use Rattle.bus_base.specs.Samples.{is_quiet}
 use Rattle.bus_base.specs.declared.samples.Sample.{Sample}
 use Rattle.bus_base.specs.declared.samples.Sample.TheVariants.{Plus, Minus, Quiet}
-use Rattle.bus_line.specs.Past.{quiet, stopped, runs, first_tick, burst_from, newest_burst, ended_now, slot_number, slot_between}
+use Rattle.bus_line.specs.Past.{Burst, quiet, stopped, runs, first_tick, burst_from, newest_burst, ended_now, slot_number, slot_between}
 use Rattle.bus_line.specs.Bursts.{IsQuietAt, IsBurst, IsEndedNow, IsSlotNow, EndsAgree, SlotsAgree}
 use Rattle.bus_line.proofs.PastLaws.{quiet-le, stopped-quiet, stopped-pulse, runs-parts, first_tick-lt, first_tick-runs, first_tick-begins, quiet-pulse}
 use Rattle.bus_line.proofs.TickLaws.{at-now, at-more, quiet-since, heard-last, pulse-sample}
 use Rattle.bus_line.proofs.BurstLaws.{one-burst, newest-burst, newest-is, burst-stopped}
-use Rattle.bus_line.proofs.CutLaws.{burst-ticks, burst-first}
+use Rattle.bus_line.proofs.SlotLaws.{burst-ticks, burst-first}
 
 -- ---- ends
 
@@ -28,7 +28,10 @@ ended-found k past = elim (cases_Bool ((quiet past == suc k) && nat_lt 0 (stoppe
   | inr fails ↦ rw fails tt
 ]
 
-ended-all : (k : ℕ) (past : List Sample) (p n : ℕ) → IsEndedNow k past p n → ended_now k past ≡ Some (burst_from past p n)
+pub ended-known : (k : ℕ) (past : List Sample) (burst : Burst) → ended_now k past ≡ Some burst → IsEndedNow k past burst.first burst.ticks
+ended-known k past burst h = let found = ended-found k past in rw h at found
+
+pub ended-all : (k : ℕ) (past : List Sample) (p n : ℕ) → IsEndedNow k past p n → ended_now k past ≡ Some (burst_from past p n)
 ended-all k past p n e =
     let stop : stopped past ≡ p + n = burst-stopped k past p n e.burst (λ t a b. e.burst.after t a (omega (arith, e.now))) in
     let whole : stopped past + quiet past ≡ length past = stopped-quiet past in
@@ -113,7 +116,7 @@ slot-last k past p i small s = elim (cases_lt s.ticks (40 * suc (suc i))) [
       w.3 (s.since w.0 w.1 (omega (arith, w.2, s.now, long, small))))
 ]
 
-slot-all : (k : ℕ) (past : List Sample) (p i : ℕ) → k ≤ 39 → IsSlotNow k past p i → slot_number k past ≡ Some i
+pub slot-all : (k : ℕ) (past : List Sample) (p i : ℕ) → k ≤ 39 → IsSlotNow k past p i → slot_number k past ≡ Some i
 slot-all k [] p i small s = absurd (omega (arith, s.now, s.burst.some))
 slot-all k (x ∷ past) p i small s =
     let last = s.burst.ends (length past) (omega (arith, s.now)) in
