@@ -10,7 +10,7 @@ ghost use Rattle.bus_words.specs.declared.word.Word.{Word};
 ghost use Rattle.bus_words.specs.declared.word.Sync.{Sync};
 ghost use Rattle.bus_line.specs.Spelling.{Spells, SpellsBit, first_half, sync_sample, sent_bit, spelled, spelling, word_in, is_one};
 
-use bus_base::Sample;
+use bus_base::Sample::{self, Minus, Plus, Quiet};
 use bus_words::{Sync, Word, parity};
 
 /// The spelling of a word: forty samples of half a bit time each, the sync first (MIL-STD-1553B 4.3.3.5).
@@ -19,7 +19,7 @@ pub fn spell(word: Word) -> [Sample; 40]
     ensures only { (samples : List Sample) → Spells word samples → samples ≡ result }
     ensures value { result ≡ spelling word }
 {
-    let mut samples = [Sample::Quiet; 40];
+    let mut samples = [Quiet; 40];
     for position in 0..samples.len() {
         samples[position] = sample_of(word, position);
     }
@@ -67,7 +67,7 @@ fn sample_of(word: Word, position: usize) -> Sample
 fn half(plus: bool) -> Sample
     ensures { result ≡ first_half plus }
 {
-    if plus { Sample::Plus } else { Sample::Minus }
+    if plus { Plus } else { Minus }
 }
 
 // The bit at a place of what is sent, from the highest bit to the parity bit.
@@ -89,24 +89,8 @@ fn read_sync(samples: &[Sample; 40]) -> Option<Sync>
         (λ sync. (p : ℕ) → p < 6 → get_or samples.now p Quiet ≡ sync_sample sync p) }
 {
     match samples {
-        [
-            Sample::Plus,
-            Sample::Plus,
-            Sample::Plus,
-            Sample::Minus,
-            Sample::Minus,
-            Sample::Minus,
-            ..
-        ] => Some(Sync::Command),
-        [
-            Sample::Minus,
-            Sample::Minus,
-            Sample::Minus,
-            Sample::Plus,
-            Sample::Plus,
-            Sample::Plus,
-            ..
-        ] => Some(Sync::Datum),
+        [Plus, Plus, Plus, Minus, Minus, Minus, ..] => Some(Sync::Command),
+        [Minus, Minus, Minus, Plus, Plus, Plus, ..] => Some(Sync::Datum),
         _ => None,
     }
 }
@@ -133,8 +117,8 @@ fn read_bit(samples: &[Sample; 40], position: usize) -> Option<bool>
         (λ one. SpellsBit samples.now position one) }
 {
     match (samples[position], samples[position + 1]) {
-        (Sample::Plus, Sample::Minus) => Some(true),
-        (Sample::Minus, Sample::Plus) => Some(false),
+        (Plus, Minus) => Some(true),
+        (Minus, Plus) => Some(false),
         _ => None,
     }
 }
@@ -151,3 +135,67 @@ pub fn spelling_is_read_back()
     ensures heard { (word : Word) (p : ℕ) → p < 40 → get_or (spelling word) p Quiet ≢ Quiet }
     ensures back { (word : Word) → word.bits < 65536 → word_in (spelling word) ≡ Some word }
 {}
+
+#[cfg(test)]
+mod tests {
+    use super::*;
+
+    fn sign_of(sample: Sample) -> u8 {
+        match sample {
+            Plus => b'+',
+            Minus => b'-',
+            Quiet => b'.',
+        }
+    }
+
+    // A command word for terminal 5 with parity 1, one with parity 0, and a data word.
+    #[test]
+    fn worked_spellings_both_ways(rt: HostRuntime) {
+        for (sync, bits, signs) in [
+            (
+                Sync::Command,
+                0x2822,
+                b"+++----+-++--++--+-+-+-+-++--+-+-++--++-",
+            ),
+            (
+                Sync::Command,
+                0x2C21,
+                b"+++----+-++--++-+--+-+-+-++--+-+-+-++--+",
+            ),
+            (
+                Sync::Datum,
+                0x0000,
+                b"---+++-+-+-+-+-+-+-+-+-+-+-+-+-+-+-+-++-",
+            ),
+        ] {
+            let word = Word { sync, bits };
+            let spelled = spell(word);
+            for position in 0..40usize {
+                assert_eq!(rt;
+                    sign_of(spelled[position]),
+                    signs[position],
+                    "sample {position} of {bits}"
+                );
+            }
+            assert_eq!(rt; read_slot(&spelled), Some(word));
+        }
+    }
+
+    // An even number of ones; a wrong last sample of the sync; a bit without a change in its middle; a quiet sample.
+    #[test]
+    fn wrong_samples_are_no_word(rt: HostRuntime) {
+        let whole = spell(Word {
+            sync: Sync::Command,
+            bits: 0x2822,
+        });
+        let mut even = whole;
+        even[38] = Minus;
+        even[39] = Plus;
+        assert_eq!(rt; read_slot(&even), None);
+        for (position, sample) in [(5usize, Plus), (6, Plus), (39, Quiet)] {
+            let mut wrong = whole;
+            wrong[position] = sample;
+            assert_eq!(rt; read_slot(&wrong), None);
+        }
+    }
+}
