@@ -14,6 +14,7 @@ use Rattle.bus_line.specs.Damage.{IsFlipped, IsFaded}
 changed : (ℕ → Sample → Sample) → List Sample → List Sample
 changed f old = map (λ p. f p (get_or old p Quiet)) (range_with_len 0 (length old))
 
+-- they are as many as before, and each is the change of what was there, also past the end
 length-changed : (f : ℕ → Sample → Sample) (old : List Sample) → length (changed f old) ≡ length old
 unfolding changed
 length-changed f old = length-map-range_with_len (λ p. f p (get_or old p Quiet)) 0 (length old)
@@ -28,10 +29,12 @@ changed_at f old off p = elim (cases_lt p (length old)) [
       ∙ sym (ap (f p) (get_or_past old p Quiet past) ∙ off p))
 ]
 
+-- where nothing is, nothing changes
 quiet_either : (b : Bool) → (if b then exchanged Quiet else Quiet) ≡ Quiet
 quiet_either true = refl
 quiet_either false = refl
 
+-- a list with flips at a set, and one with fades
 pub some_flipped : (set : List Bool) (old : List Sample) → (new : List Sample) × IsFlipped set old new
 some_flipped set old =
     let f : ℕ → Sample → Sample = λ p x. if takes set p then exchanged x else x in

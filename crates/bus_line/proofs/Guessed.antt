@@ -15,15 +15,18 @@ use Rattle.bus_line.proofs.Numbers.{number_below, number_bit, same_bit}
 abbrev pub firsts : List Sample → ℕ → Bool
 firsts s = λ i. is_plus (get_or s (6 + 2 * i) Quiet)
 
+-- a bit is told by its first half
 pub plus_half : (b : Bool) → is_plus (first_half b) ≡ b
 plus_half true = refl
 plus_half false = refl
 
+-- words with the same parts are the same
 same_word : (w : Word) (y : Sync) (n : ℕ) → y ≡ w.sync → n ≡ w.bits → (let v : Word = record { sync = y; bits = n } in v) ≡ w
 same_word w y n p q =
     let make : Sync → ℕ → Word = λ a b. record { sync = a; bits = b } in
     ap (λ a. make a n) p ∙ ap (λ b. make w.sync b) q
 
+-- a sync is told by its first sample
 sync_by_lead : (y : Sync) → (if is_plus (first_half (leads_plus y)) then Command else Datum) ≡ y
 sync_by_lead Command = refl
 sync_by_lead Datum = refl
@@ -55,6 +58,7 @@ bits_spelled s n bits e f pairs i h =
     let one : is_one bits (15 - i) ≡ firsts s i = ap (λ b. is_one b (15 - i)) all ∙ number_bit (firsts s) 16 i h in
     subst (λ b. SpellsBit s (6 + 2 * i) b) (sym one) (pairs i (omega (arith, e, h)))
 
+-- a pair that is a bit is the one that its first half tells
 pub pair_is : (s : List Sample) (i : ℕ) (b : Bool) → SpellsBit s (6 + 2 * i) b → SpellsBit s (6 + 2 * i) (firsts s i)
 pair_is s i b h = subst (λ x. SpellsBit s (6 + 2 * i) x) (sym (first_is s (6 + 2 * i) b h)) h
 
@@ -79,10 +83,12 @@ even_is_none s bits further small h last even w k =
     even (subst (λ b. (count_ones bits + (if b then 1 else 0)) % 2 ≡ 1) one
     (subst (λ n. (count_ones n + (if k.further then 1 else 0)) % 2 ≡ 1) same k.odd))
 
+-- what is guessed is in the range of sixteen bits
 pub guessed_below : (s : List Sample) → (guessed s).bits < 65536
 unfolding guessed
 guessed_below s = number_below (firsts s) 16
 
+-- the test of samples for being the same is right
 same_sample_refl : (x : Sample) → same_sample x x ≡ true
 same_sample_refl Plus = refl
 same_sample_refl Minus = refl
@@ -99,6 +105,7 @@ same_sample_eq Quiet Plus h = cc
 same_sample_eq Quiet Minus h = cc
 same_sample_eq Quiet Quiet h = refl
 
+-- so is the test of two lists
 pub same_samples_refl : (xs : List Sample) → same_samples xs xs ≡ true
 unfolding same_samples
 same_samples_refl [] = refl
@@ -115,19 +122,20 @@ same_samples_eq (x ∷ xs) (y ∷ ys) h =
     let b : xs ≡ ys = same_samples_eq xs ys both.1 in
     cc
 
--- what is guessed is spelled, or nothing is
-pub word_in_some : (s : List Sample) → s ≡ spelling (guessed s) → word_in s ≡ Some (guessed s)
+-- what is guessed is found where it is spelled, else nothing is
+pub found : (s : List Sample) → s ≡ spelling (guessed s) → word_in s ≡ Some (guessed s)
 unfolding word_in
-word_in_some s e =
+found s e =
     let t : same_samples s (spelling (guessed s)) ≡ true = subst (λ x. same_samples s x ≡ true) e (same_samples_refl s) in
     rw t refl
 
-pub word_in_none : (s : List Sample) → (s ≡ spelling (guessed s) → ⊥) → word_in s ≡ None
+pub not_found : (s : List Sample) → (s ≡ spelling (guessed s) → ⊥) → word_in s ≡ None
 unfolding word_in
-word_in_none s n =
+not_found s n =
     let t : same_samples s (spelling (guessed s)) ≡ false = false_from_ne_true _ (λ e. n (same_samples_eq s (spelling (guessed s)) e)) in
     rw t refl
 
+-- what is guessed is the only word that the samples may spell
 pub spells_guessed : (s : List Sample) → s ≡ spelling (guessed s) → Spells (guessed s) s
 spells_guessed s e = subst (λ x. Spells (guessed s) x) (sym e) (spelling_spells (guessed s) (guessed_below s))
 
@@ -138,12 +146,12 @@ none_spells s n w h = n (spells_only w s h ∙ ap spelling (sym (guessed_is w s 
 pub word_in-spells : (s : List Sample) (w : Word) → Spells w s → word_in s ≡ Some w
 word_in-spells s w h =
     let g : guessed s ≡ w = guessed_is w s h in
-    word_in_some s (spells_only w s h ∙ ap spelling (sym g)) ∙ ap (λ v. Some v) g
+    found s (spells_only w s h ∙ ap spelling (sym g)) ∙ ap (λ v. Some v) g
 
 -- what was read is what is found
 pub word_in-read : (s : List Sample) (r : Option Word) →
     MatchOption r ((w : Word) → Spells w s → ⊥) (λ w. Spells w s) → r ≡ word_in s
-word_in-read s None none = sym (word_in_none s (λ e. none (guessed s) (spells_guessed s e)))
+word_in-read s None none = sym (not_found s (λ e. none (guessed s) (spells_guessed s e)))
 word_in-read s (Some w) some = sym (word_in-spells s w some)
 
 -- what is found is right
@@ -151,10 +159,10 @@ pub reads_word_in : (s : List Sample) → MatchOption (word_in s) ((w : Word) �
 reads_word_in s = elim (cases_Bool (same_samples s (spelling (guessed s)))) [
   | inl e ↦ (
       let same : s ≡ spelling (guessed s) = same_samples_eq s (spelling (guessed s)) e in
-      rw (word_in_some s same) (spells_guessed s same))
+      rw (found s same) (spells_guessed s same))
   | inr e ↦ (
       let other : s ≡ spelling (guessed s) → ⊥ = λ f. false≢true (sym e ∙ subst (λ x. same_samples s x ≡ true) f (same_samples_refl s)) in
-      rw (word_in_none s other) (none_spells s other))
+      rw (not_found s other) (none_spells s other))
 ]
 
 -- what is found is spelled

@@ -16,6 +16,7 @@ heard-spelling w p h e = spelled_heard w p (sym (spelling_at w p h) ∙ e)
 pub heard-spells : (w : Word) (s : List Sample) → Spells w s → (p : ℕ) → p < 40 → get_or s p Quiet ≢ Quiet
 heard-spells w s k p h e = spelled_heard w p (sym (spells_at w s k p h) ∙ e)
 
+-- what isn't quiet tests so
 pub heard_test : (x : Sample) → x ≢ Quiet → is_quiet x ≡ false
 heard_test Plus h = refl
 heard_test Minus h = refl
@@ -43,6 +44,7 @@ word_in-quiet s p h e = sym (word_in-read s None (λ w k. heard-spells w s k p h
 pub word_in-other_length : (s : List Sample) → length s ≢ 40 → word_in s ≡ None
 word_in-other_length s other = sym (word_in-read s None (λ w k. other k.forty))
 
+-- an option has one value
 same_some : (v w : Word) → ◌≡◌ {A = Option Word} (Some v) (Some w) → v ≡ w
 same_some v w e = cc
 

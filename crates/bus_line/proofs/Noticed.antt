@@ -57,9 +57,11 @@ module _ (set : List Bool) (w v : Word) (old new : List Sample) (spells : Spells
     even = omega (arith, evens set w v 17 at_first, ones_odd w spells.in_range, ones_odd v other.in_range);
   }
 
+-- so flips at a detectable set are noticed
 pub noticed : (set : List Bool) → (IsUndetectable set → ⊥) → AreFlipsNoticed set
 noticed set h w old new spells flipped v other = h (undetectable set w v old new spells flipped other)
 
+-- samples with a quiet one among them spell no word
 pub fades_noticed : (set : List Bool) (p : ℕ) → p < 40 → takes set p ≡ true → AreFadesNoticed set
 fades_noticed set p h taken w old new spells faded v other =
     let quiet : get_or new p Quiet ≡ Quiet = rw taken at (faded.each p) in

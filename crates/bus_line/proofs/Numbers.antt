@@ -7,6 +7,7 @@ use Rattle.std.specs.Int.{bit_at}
 use mir.Val.{bool_byte}
 use Rattle.bus_line.specs.Spelling.{is_one, number_of}
 
+-- n bits make a number below 2 ^ n
 pub number_below : (b : ℕ → Bool) (n : ℕ) → number_of b n < 2 ^ n
 unfolding number_of
 number_below b zero = omega arith
@@ -19,6 +20,7 @@ number_below b (suc n) = elim (cases_Bool (b n)) [
 pub number_fits : (b : ℕ → Bool) (n : ℕ) → n < 16 → number_of b n < 32768
 number_fits b n h = let m : 2 ^ n ≤ 2 ^ 15 = pow_mono (let k : n ≤ 15 = omega arith in k) in omega (arith, number_below b n, m)
 
+-- a further bit doubles the number and adds itself, as the code computes it
 pub number_more : (b : ℕ → Bool) (n : ℕ) → number_of b (n + 1) ≡ 2 * number_of b n + (if b n then 1 else 0)
 unfolding number_of
 number_more b n = rw add-one refl
@@ -27,10 +29,12 @@ pub number_step : (b : ℕ → Bool) (n bits byte : ℕ) (r : Bool) → bits ≡
 number_step b n bits byte true e f g = rw (number_more b n, ← g) (omega arith)
 number_step b n bits byte false e f g = rw (number_more b n, ← g) (omega arith)
 
+-- without its last bit a number is half as great
 number_half : (b : ℕ → Bool) (n : ℕ) → number_of b (suc n) / 2 ≡ number_of b n
 unfolding number_of
 number_half b n = elim (cases_Bool (b n)) [ inl e ↦ rw e (omega arith) | inr e ↦ rw e (omega arith) ]
 
+-- the last bit is the lowest
 number_last : (b : ℕ → Bool) (n : ℕ) → is_one (number_of b (suc n)) 0 ≡ b n
 unfolding number_of
 number_last b n = elim (cases_Bool (b n)) [
@@ -38,6 +42,7 @@ number_last b n = elim (cases_Bool (b n)) [
   | inr e ↦ rw e (ne_eqb ((2 * number_of b n + 0) / 2 ^ 0 % 2) 1 (λ q. omega (arith, div-one (2 * number_of b n + 0))))
 ]
 
+-- the bits of the number of some bits are these
 pub number_bit : (b : ℕ → Bool) (n i : ℕ) → i < n → is_one (number_of b n) (n - 1 - i) ≡ b i
 number_bit b zero i h = absurd (omega arith)
 number_bit b (suc n) i h = elim (cases_eq i n) [

@@ -20,19 +20,23 @@ pub ones_sent : Word → ℕ → ℕ
 ones_sent w zero = 0
 ones_sent w (suc n) = ones_sent w n + (if sent_bit w n then 1 else 0)
 
+-- a further bit sent adds itself
 pub ones_more : (w : Word) (n : ℕ) → ones_sent w (suc n) ≡ ones_sent w n + (if sent_bit w n then 1 else 0)
 unfolding ones_sent
 ones_more w n = refl
 
+-- the lowest bit of a number as a count
 one_counted : (m : ℕ) → (if m % 2 == 1 then 1 else 0) ≡ m % 2
 one_counted m = elim (cases_eq (m % 2) 1) [
   | inl e ↦ (let t : (m % 2 == 1) ≡ true = eq-eqb (m % 2) 1 e in rw t (sym e))
   | inr e ↦ (let t : (m % 2 == 1) ≡ false = ne_eqb (m % 2) 1 e in rw t (omega arith))
 ]
 
+-- bits that are left of a number, one fewer at a time
 half_more : (b n : ℕ) → n < 16 → b / 2 ^ (15 - n) / 2 ≡ b / 2 ^ (16 - n)
 half_more b n h = let e : (15 - n) + 1 ≡ 16 - n = omega arith in rw e at (shr-shr b (15 - n) 1)
 
+-- no bit sent has no ones
 pub ones_none : (w : Word) → ones_sent w 0 ≡ count_ones 0
 unfolding ones_sent
 ones_none w = omega (arith, ones-le 0 0 (omega arith))
@@ -49,6 +53,7 @@ ones_of_bits w h (suc n) q =
     let place : 16 - suc n ≡ 15 - n = omega arith in
     rw (ones_more w n, bit, place) (omega (arith, before, step, ap count_ones half, counted))
 
+-- the sixteen bits sent have the ones of the word's number
 pub count_sent : (w : Word) → w.bits < 65536 → ones_sent w 16 ≡ count_ones w.bits
 count_sent w h = let one : w.bits / 2 ^ 0 ≡ w.bits = omega arith in ones_of_bits w h 16 (omega arith) ∙ ap count_ones one
 
@@ -59,6 +64,7 @@ ones_odd w h =
     let one : w.bits / 2 ^ 0 ≡ w.bits = omega arith in
     rw (ones_more w 16, sent_last w, all, one) (odd_with (count_ones w.bits))
 
+-- one bit of two words, and whether they differ, add an even number
 differ_even : (a b : Bool) (m n k : ℕ) → (m + n + k) % 2 ≡ 0 → ((m + (if a then 1 else 0)) + (n + (if b then 1 else 0)) + (k + (if differ a b then 1 else 0))) % 2 ≡ 0
 differ_even true true m n k h = omega arith
 differ_even true false m n k h = omega arith

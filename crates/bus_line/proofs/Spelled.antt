@@ -8,18 +8,22 @@ use Rattle.bus_base.specs.declared.samples.Sample.TheVariants.{Quiet}
 use Rattle.bus_words.specs.declared.word.Word.{Word}
 use Rattle.bus_line.specs.Spelling.{Spells, SpellsBit, first_half, second_half, sync_sample, leads_plus, sent_bit, spelled, spelling, is_one}
 
+-- the sample of a spelling at a position
 pub spelling_at : (w : Word) (p : ℕ) → p < 40 → get_or (spelling w) p Quiet ≡ spelled w p
 unfolding spelling
 spelling_at w p h = get_or-map-range_with_len (spelled w) 0 40 p p Quiet h (omega arith)
 
+-- a spelling has forty samples
 pub length-spelling : (w : Word) → length (spelling w) ≡ 40
 unfolding spelling
 length-spelling w = length-map-range_with_len (spelled w) 0 40
 
+-- the first six are the sync
 spelled_sync : (w : Word) (p : ℕ) → p < 6 → spelled w p ≡ sync_sample w.sync p
 unfolding spelled
 spelled_sync w p h = let a : nat_lt p 6 ≡ true = lt-ltb p 6 h in rw a refl
 
+-- the two samples of each bit that is sent
 pub spelled_first : (w : Word) (i : ℕ) → spelled w (6 + 2 * i) ≡ first_half (sent_bit w i)
 unfolding spelled
 spelled_first w i =
@@ -36,6 +40,7 @@ spelled_second w i =
     let d : ((suc (6 + 2 * i)) - 6) / 2 ≡ i = omega arith in
     rw (a, b, d) refl
 
+-- the first sixteen bits that are sent are the word's, and the last is its parity bit
 pub sent_low : (w : Word) (i : ℕ) → i < 16 → sent_bit w i ≡ is_one w.bits (15 - i)
 unfolding sent_bit
 sent_low w i h = let a : nat_lt i 16 ≡ true = lt-ltb i 16 h in rw a refl
@@ -44,12 +49,14 @@ pub sent_last : (w : Word) → sent_bit w 16 ≡ (count_ones w.bits % 2 == 0)
 unfolding sent_bit
 sent_last w = refl
 
+-- each pair of a spelling spells the bit that is sent
 spelling_bit : (w : Word) (i : ℕ) → i < 17 → SpellsBit (spelling w) (6 + 2 * i) (sent_bit w i)
 spelling_bit w i h = record {
   first = spelling_at w (6 + 2 * i) (omega arith) ∙ spelled_first w i;
   second = spelling_at w (suc (6 + 2 * i)) (omega arith) ∙ spelled_second w i;
 }
 
+-- with its parity bit a number of ones is odd, and it is odd with no other bit
 pub odd_with : (n : ℕ) → (n + (if n % 2 == 0 then 1 else 0)) % 2 ≡ 1
 odd_with n = elim (cases_eq (n % 2) 0) [
   | inl e ↦ (let a : (n % 2 == 0) ≡ true = eq-eqb (n % 2) 0 e in rw a (omega arith))
@@ -60,6 +67,7 @@ even_with : (n : ℕ) (b : Bool) → (n + (if b then 1 else 0)) % 2 ≡ 1 → b 
 even_with n true h = sym (eq-eqb (n % 2) 0 (omega arith))
 even_with n false h = sym (ne_eqb (n % 2) 0 (λ e. omega arith))
 
+-- a word's spelling spells it
 pub spelling_spells : (w : Word) → w.bits < 65536 → Spells w (spelling w)
 spelling_spells w h = record {
   in_range = h;
@@ -80,6 +88,7 @@ spells_bit w s h i q = elim (cases_lt i 16) [
       rw (e, sent_last w, ← even_with (count_ones w.bits) h.further h.odd) h.parity)
 ]
 
+-- samples that spell a word are its spelling at each position, and so as a whole
 pub spells_at : (w : Word) (s : List Sample) → Spells w s → (p : ℕ) → p < 40 → get_or s p Quiet ≡ spelled w p
 spells_at w s h p q = elim (cases_lt p 6) [
   | inl low ↦ h.sync p low ∙ sym (spelled_sync w p low)
@@ -98,6 +107,7 @@ pub spells_only : (w : Word) (s : List Sample) → Spells w s → s ≡ spelling
 spells_only w s h = ext_get_or Quiet s (spelling w) (h.forty ∙ sym (length-spelling w))
     (λ p q. spells_at w s h p (omega (arith, h.forty)) ∙ sym (spelling_at w p (omega (arith, h.forty))))
 
+-- neither half of a bit is quiet
 first_heard : (b : Bool) → first_half b ≡ Quiet → ⊥
 first_heard true h = cc
 first_heard false h = cc

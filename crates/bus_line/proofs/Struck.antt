@@ -14,6 +14,7 @@ use Rattle.bus_line.proofs.Spelled.{spells_at, sent_low}
 use Rattle.bus_line.proofs.Numbers.{number_below, number_bit}
 use Rattle.bus_line.proofs.SentBits.{differ, ones_sent, count_sent, evens}
 
+-- a half that is exchanged is that of the other bit
 first_differ : (f a : Bool) → (if f then exchanged (first_half a) else first_half a) ≡ first_half (differ a f)
 first_differ true true = refl
 first_differ true false = refl
@@ -26,16 +27,19 @@ second_differ true false = refl
 second_differ false true = refl
 second_differ false false = refl
 
+-- where two bits differ is what was flipped
 differ_back : (a f : Bool) → f ≡ differ a (differ a f)
 differ_back true true = refl
 differ_back true false = refl
 differ_back false true = refl
 differ_back false false = refl
 
+-- the other sync, which is what flips of a whole sync leave
 pub inverse_sync : Sync → Sync
 inverse_sync Command = Datum
 inverse_sync Datum = Command
 
+-- a sync that is exchanged is the other one, sample by sample
 leads_struck : (f : Bool) (y : Sync) → leads_plus (if f then inverse_sync y else y) ≡ differ (leads_plus y) f
 unfolding inverse_sync
 leads_struck true Command = refl
@@ -49,12 +53,14 @@ sync_struck f y p = rw (leads_struck f y) (elim (cases_Bool (nat_lt p 3)) [
   | inr e ↦ rw e (second_differ f (leads_plus y))
 ])
 
+-- the word that is left: its bits, and as a whole
 pub struck_bit : List Bool → Word → ℕ → Bool
 struck_bit set w i = differ (is_one w.bits (15 - i)) (takes set (6 + 2 * i))
 
 pub struck : List Bool → Word → Word
 struck set w = record { sync = if takes set 0 then inverse_sync w.sync else w.sync; bits = number_of (struck_bit set w) 16 }
 
+-- the parity bit that is left is right for the bits that are left, since pairs were taken in an even number
 struck_last : (m n k a b all : ℕ) (x t : Bool) → (m + n + k) % 2 ≡ 0 → all ≡ k + (if t then 1 else 0) → m ≡ a → n ≡ b → all % 2 ≡ 0 →
     (a + (if x then 1 else 0)) % 2 ≡ 1 → (b + (if differ x t then 1 else 0)) % 2 ≡ 1
 struck_last m n k a b all true true e f g h i j = omega arith
@@ -62,6 +68,7 @@ struck_last m n k a b all true false e f g h i j = omega arith
 struck_last m n k a b all false true e f g h i j = omega arith
 struck_last m n k a b all false false e f g h i j = omega arith
 
+-- a half of a bit isn't its own exchange
 first_moves : (b : Bool) → first_half b ≡ exchanged (first_half b) → ⊥
 first_moves true h = cc
 first_moves false h = cc
@@ -131,6 +138,7 @@ module _ (set : List Bool) (w : Word) (old new : List Sample) (spells : Spells w
       let at_old : get_or old p Quiet ≡ spelled w p = spells_at w old spells p h in
       spelled_moves w p (sym at_new ∙ moved ∙ ap exchanged at_old)
 
+-- so flips at an undetectable set aren't noticed
 pub unnoticed : (set : List Bool) → IsUndetectable set → (p : ℕ) → p < 40 → takes set p ≡ true → AreFlipsUnnoticed set
 unnoticed set blind p h taken w old new spells flipped =
     (struck set w, struck_spells set w old new spells flipped blind, struck_other set w old new spells flipped blind p h taken)
