@@ -47,7 +47,7 @@ ends-agree k past = record { found = ended-found k past; all = λ p n inside e. 
 -- ---- slots
 
 -- the number of a slot that became whole between so many ticks of a burst and so many
-between-some : (before now i : ℕ) → slot_between before now ≡ Some i → (before < 40 * suc i) × (40 * suc i ≤ now)
+pub between-some : (before now i : ℕ) → slot_between before now ≡ Some i → (before < 40 * suc i) × (40 * suc i ≤ now)
 between-some before now i h = elim (cases_lt (before / 40) (now / 40)) [
   | inl more ↦ (
       let holds : slot_between before now ≡ Some (now / 40 - 1) = grind (arith, nat_tests, more) in
@@ -66,7 +66,7 @@ between-is before now i low whole high =
     let same : now / 40 - 1 ≡ i = omega (arith, new) in
     holds ∙ (rw same refl)
 
-slot-is-now : (k : ℕ) (x : Sample) (past : List Sample) (i : ℕ) → is_quiet x ≡ false → runs k past ≡ true →
+pub slot-is-now : (k : ℕ) (x : Sample) (past : List Sample) (i : ℕ) → is_quiet x ≡ false → runs k past ≡ true →
     slot_between (stopped past - first_tick k past) (suc (length past) - first_tick k past) ≡ Some i →
     IsSlotNow k (x ∷ past) (first_tick k (x ∷ past)) i
 slot-is-now k x past i pulse on found =
@@ -98,7 +98,7 @@ slot-found k (x ∷ past) = elim (cases_Bool (is_quiet x || not (runs k past))) 
 ]
 
 -- where the ticks before the newest are quiet from e on, the stop before it is no later
-stopped-before : (x : Sample) (past : List Sample) (e : ℕ) → e ≤ length past → ((t : ℕ) → e ≤ t → suc t < length (x ∷ past) → IsQuietAt (x ∷ past) t) → stopped past ≤ e
+pub stopped-before : (x : Sample) (past : List Sample) (e : ℕ) → e ≤ length past → ((t : ℕ) → e ≤ t → suc t < length (x ∷ past) → IsQuietAt (x ∷ past) t) → stopped past ≤ e
 stopped-before x past e within after = elim (cases_lt e (stopped past)) [
   | inr low ↦ low
   | inl high ↦ absurd (

@@ -1,10 +1,18 @@
 //! Laws of bursts and slots, each the contract of a function without a body.
 
-ghost use Rattle.std.specs.Prelude.{◌≡◌, ℕ, ◌≤◌, true, List, ◌∷◌, Some, None};
+ghost use Rattle.std.specs.Prelude.{◌≡◌, ◌↔◌, ℕ, ◌+◌, ◌<◌, ◌≤◌, true, List, ◌∷◌, Some, None};
 ghost use Rattle.bus_base.specs.declared.samples.Sample.{Sample};
-ghost use Rattle.bus_line.specs.Bursts.{EndsAgree, SlotsAgree, IsEndSince};
-ghost use Rattle.bus_line.specs.Past.{Burst, runs, first_tick, ended_now, end_of, end_since};
-ghost use Rattle.bus_line.specs.Cutting.{cut_now, running_slots, Tells, Collects};
+ghost use Rattle.bus_line.specs.Bursts.{EndsAgree, SlotsAgree, IsEndSince, IsBurst, IsLongest};
+ghost use Rattle.bus_line.specs.Past.{Burst, Slot, runs, first_tick, ended_now, slot_now, end_of, end_since};
+ghost use Rattle.bus_line.specs.Cutting.{cut_now, running_slots, Tells, Collects, Closes, Fills};
+
+/// A burst is a longest stretch of ticks that begins and ends with one that isn't quiet and holds no k + 1 quiet ones in a row, and no tick
+/// is in two bursts. At every lag.
+pub fn a_burst_is_a_longest_stretch()
+    ensures longest { (k : ℕ) (past : List Sample) (p n : ℕ) → IsBurst k past p n ↔ IsLongest k past p n }
+    ensures alone { (k : ℕ) (past : List Sample) (p n q m t : ℕ) → IsBurst k past p n → IsBurst k past q m →
+        p ≤ t → t < p + n → q ≤ t → t < q + m → (p ≡ q) × (n ≡ m) }
+{}
 
 /// The slot that is looked up in a past is the slot of a burst by tick numbers that ended in its newest tick, and no other, at every lag
 /// below a slot's forty ticks. (At a longer lag two slots may end in one tick.)
@@ -22,9 +30,11 @@ pub fn a_cut_tells_what_ended()
     ensures { (k : ℕ) (past : List Sample) → Tells k past (cut_now k past) }
 {}
 
-/// The cuts add up to the words of the whole slots of the burst that runs, and an end tells how many they were.
+/// The cuts add up to the words of the whole slots of the burst that runs: each slot that ended is its next, and an end tells of all.
 pub fn cuts_add_up()
-    ensures { (k : ℕ) (x : Sample) (past : List Sample) → k ≤ 39 → Collects (cut_now k (x ∷ past)) (running_slots k past) (running_slots k (x ∷ past)) }
+    ensures collects { (k : ℕ) (x : Sample) (past : List Sample) → k ≤ 39 → Collects (cut_now k (x ∷ past)) (running_slots k past) (running_slots k (x ∷ past)) }
+    ensures closes { (k : ℕ) (x : Sample) (past : List Sample) (burst : Burst) → ended_now k (x ∷ past) ≡ Some burst → Closes k x past burst }
+    ensures fills { (k : ℕ) (x : Sample) (past : List Sample) (slot : Slot) → k ≤ 39 → slot_now k (x ∷ past) ≡ Some slot → Fills k x past slot }
 {}
 
 /// Where what began at a tick has its end: the end that is looked up is the one by tick numbers. It is found once and stays; for what began
