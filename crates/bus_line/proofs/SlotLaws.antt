@@ -35,6 +35,9 @@ word-before q j x past here within =
     let head : drop j past ≡ Quiet ∷ drop (suc j) past = quiet-place past j within in
     rw (at, head, reverse-more Quiet (take 39 (drop (suc j) past))) (word-quiet (reverse (take 39 (drop (suc j) past))) (simp (length-reverse, length-take) (omega arith)))
 
+pub newest-quiet : (past : List Sample) → word_in (newest_samples 40 (Quiet ∷ past)) ≡ None
+newest-quiet past = rw (reverse-more Quiet (take 39 past)) (word-quiet (reverse (take 39 past)) (simp (length-reverse, length-take) (omega arith)))
+
 -- a tick more changes no samples before it
 pub samples-more : (x : Sample) (past : List Sample) (p n : ℕ) → p + n ≤ length past → samples_from (x ∷ past) p n ≡ samples_from past p n
 samples-more x past p n fits =

@@ -2,7 +2,8 @@
 
 ghost use Rattle.std.specs.Prelude.{◌≡◌, ◌↔◌, ℕ, ◌+◌, ◌<◌, ◌≤◌, true, List, ◌∷◌, Some, None};
 ghost use Rattle.bus_base.specs.declared.samples.Sample.{Sample};
-ghost use Rattle.bus_line.specs.Bursts.{EndsAgree, SlotsAgree, IsEndSince, IsBurst, IsLongest};
+ghost use Rattle.bus_base.specs.declared.samples.Pair.{Pair};
+ghost use Rattle.bus_line.specs.Bursts.{EndsAgree, SlotsAgree, IsEndSince, IsBurst, IsLongest, ValidAgree};
 ghost use Rattle.bus_line.specs.Past.{Burst, Slot, runs, first_tick, ended_now, slot_now, end_of, end_since};
 ghost use Rattle.bus_line.specs.Cutting.{cut_now, running_slots, Tells, Collects, Closes, Fills};
 
@@ -45,4 +46,9 @@ pub fn ends_since_a_tick_are_found()
     ensures stays { (k : ℕ) (x : Sample) (past : List Sample) (a e : ℕ) → end_since k past a ≡ Some e → end_since k (x ∷ past) a ≡ Some e }
     ensures runs { (k : ℕ) (past : List Sample) → runs k past ≡ true → end_since k past (first_tick k past) ≡ None }
     ensures ended { (k : ℕ) (past : List Sample) (burst : Burst) → ended_now k past ≡ Some burst → end_since k past burst.first ≡ Some (end_of burst) }
+{}
+
+/// The list of valid words has the words that whole slots of bursts spell and no others, in the order of their last ticks, A before B.
+pub fn valid_words_are_found()
+    ensures { (k : ℕ) (past : List Pair) → k ≤ 39 → ValidAgree k past }
 {}
