@@ -24,7 +24,7 @@ pub end_since-now : (k : ℕ) (x : Sample) (past : List Sample) (a : ℕ) → a 
 unfolding end_since
 end_since-now k x past a h = let late : nat_lt (length past) a ≡ false = le-ltb (length past) a h in rw late refl
 
-cases-option : (o : Option ℕ) → (o ≡ None) ⊎ ((e : ℕ) × (o ≡ Some e))
+pub cases-option : (o : Option ℕ) → (o ≡ None) ⊎ ((e : ℕ) × (o ≡ Some e))
 cases-option None = inl refl
 cases-option (Some e) = inr (e, refl)
 
