@@ -37,7 +37,7 @@ ended-more k past on all =
     let below : quiet past ≤ length past = quiet-le past in
     let less : first_tick k past < stopped past = first_tick-lt k past some in
     let same : newest_burst k (Quiet ∷ past) ≡ newest_burst k past =
-      rw more (burst_from-more Quiet past (first_tick k past) (stopped past - first_tick k past) (omega (arith, less, below))) in
+    rw more (burst_from-more Quiet past (first_tick k past) (stopped past - first_tick k past) (omega (arith, less, below))) in
     let found : ended_now k (Quiet ∷ past) ≡ Some (newest_burst k (Quiet ∷ past)) = grind (arith, nat_tests, all, more, some) in
     found ∙ ap Some same
 
@@ -46,7 +46,7 @@ pub now-ended : (k : ℕ) (past : List Sample) → runs k past ≡ true → quie
 unfolding cut_now
 now-ended k past on all =
     rw (ended-more k past on all)
-      (rw (slots-count past (first_tick k past) (stopped past - first_tick k past), burst-ticks past (first_tick k past) (stopped past - first_tick k past)) refl)
+    (rw (slots-count past (first_tick k past) (stopped past - first_tick k past), burst-ticks past (first_tick k past) (stopped past - first_tick k past)) refl)
 
 pub ended-none : (k : ℕ) (x : Sample) (past : List Sample) → is_quiet x ≡ false → ended_now k (x ∷ past) ≡ None
 ended-none k x past pulse = let none : quiet (x ∷ past) ≡ 0 = quiet-pulse x past pulse in grind (arith, nat_tests, none)

@@ -58,8 +58,8 @@ heard_within-from (x ∷ past) a b t low high heard =
           let at : t ≡ length past = omega (arith, inside, now) in
           let here : IsHeardAt (x ∷ past) (length past) = rw at at heard in
           or_left (not (is_quiet x) && nat_lt (length past) b) (heard_within past a b)
-            (and_from (not (is_quiet x)) (nat_lt (length past) b) (not_from_false (is_quiet x) (pulse-sample x (λ e. here (at-now x past ∙ e))))
-              (lt-ltb (length past) b (omega (arith, at, high)))))
+          (and_from (not (is_quiet x)) (nat_lt (length past) b) (not_from_false (is_quiet x) (pulse-sample x (λ e. here (at-now x past ∙ e))))
+          (lt-ltb (length past) b (omega (arith, at, high)))))
     ]
 
 -- ---- from a tick on

@@ -94,7 +94,7 @@ slot-found k (x ∷ past) = elim (cases_Bool (is_quiet x || not (runs k past))) 
   | inl fails ↦ rw fails tt
   | inr holds ↦ (let parts = or_parts (is_quiet x) (not (runs k past)) holds in
       rw holds (some-found k x past (slot_between (stopped past - first_tick k past) (suc (length past) - first_tick k past))
-        (λ i e. slot-is-now k x past i parts.0 (not-false (runs k past) parts.1) e)))
+      (λ i e. slot-is-now k x past i parts.0 (not-false (runs k past) parts.1) e)))
 ]
 
 -- where the ticks before the newest are quiet from e on, the stop before it is no later
@@ -104,7 +104,7 @@ stopped-before x past e within after = elim (cases_lt e (stopped past)) [
   | inl high ↦ absurd (
       let below : quiet past ≤ length past = quiet-le past in
       heard-last past (stopped past - 1) (omega (arith, high))
-        (sym (at-more x past (stopped past - 1) (omega (arith, high, below))) ∙ after (stopped past - 1) (omega (arith, high)) (omega (arith, high, below))))
+      (sym (at-more x past (stopped past - 1) (omega (arith, high, below))) ∙ after (stopped past - 1) (omega (arith, high)) (omega (arith, high, below))))
 ]
 
 -- two slots don't become whole at once: so many quiet ticks stand in no burst
@@ -131,8 +131,8 @@ slot-all k (x ∷ past) p i small s =
           let stop : stopped past ≤ p + 40 * i + 39 = stopped-before x past (p + 40 * i + 39) (omega (arith, s.whole, s.now)) s.since in
           let short : s.ticks < 40 * suc (suc i) = slot-last k (x ∷ past) p i small s in
           let number : slot_between (stopped past - first_tick k past) (suc (length past) - first_tick k past) ≡ Some i =
-            between-is (stopped past - first_tick k past) (suc (length past) - first_tick k past) i
-              (omega (arith, is.0, first, stop)) (omega (arith, is.0, first, s.whole, s.now)) (omega (arith, is.0, first, short, s.now)) in
+          between-is (stopped past - first_tick k past) (suc (length past) - first_tick k past) i
+          (omega (arith, is.0, first, stop)) (omega (arith, is.0, first, s.whole, s.now)) (omega (arith, is.0, first, short, s.now)) in
           rw (pulse, on) number)
     ]
 

@@ -113,7 +113,7 @@ word-cut k later (x ∷ past) q word s spelled here =
         ticks = 40 * s.number + 40;
         number = s.number;
         burst = burst-cut k later (x ∷ past) s.first s.ticks (40 * s.number + 40) s.burst (omega (arith, s.place, here)) (omega arith) s.whole
-          (λ t e. let at : t ≡ length past = omega (arith, e, s.place, here) in rw at (λ h. heard-sample x pulse (sym (at-now x past) ∙ h)));
+            (λ t e. let at : t ≡ length past = omega (arith, e, s.place, here) in rw at (λ h. heard-sample x pulse (sym (at-now x past) ∙ h)));
         place = s.place;
         whole = omega arith;
       };
@@ -173,7 +173,7 @@ unfolding valid
 valid-later k [] past v has = has
 valid-later k (shown ∷ later) past v has =
     Contains-append_left (valid k (later ++ past))
-      (valid_now k A (shown ∷ (later ++ past)) ++ valid_now k B (shown ∷ (later ++ past))) v (valid-later k later past v has)
+    (valid_now k A (shown ∷ (later ++ past)) ++ valid_now k B (shown ∷ (later ++ past))) v (valid-later k later past v has)
 
 in-channel : (k : ℕ) (shown : Pair) (past : List Pair) (v : ValidWord) (c : Channel) → v.channel ≡ c → Contains (valid_now k c (shown ∷ past)) v →
     Contains (valid k (shown ∷ past)) v
@@ -206,8 +206,8 @@ valid-all k past v small is =
     let whole : take (length past - (v.first + 40)) past ++ drop (length past - (v.first + 40)) past ≡ past = take-append-drop (length past - (v.first + 40)) past in
     let rest : length (drop (length past - (v.first + 40)) past) ≡ length past - (length past - (v.first + 40)) = length-drop (length past - (v.first + 40)) past in
     subst (λ xs. Contains (valid k xs) v) whole
-      (in-parts k (take (length past - (v.first + 40)) past) (drop (length past - (v.first + 40)) past) v small
-        (subst (λ xs. IsValid k xs v) (sym whole) is) (omega (arith, rest, inside, long)))
+    (in-parts k (take (length past - (v.first + 40)) past) (drop (length past - (v.first + 40)) past) v small
+    (subst (λ xs. IsValid k xs v) (sym whole) is) (omega (arith, rest, inside, long)))
 
 -- ---- their order
 
@@ -250,10 +250,10 @@ valid-order k (shown ∷ past) small =
     let old : AllPairs Precedes (valid k past) = valid-order k past small in
     let a_now = pairs-more A (slot_now k (on_channel A (shown ∷ past))) (valid k past) old (λ v w has now. inl (old-first k A shown past v w small has now)) in
     let b_now = pairs-more B (slot_now k (on_channel B (shown ∷ past))) (valid k past ++ valid_now k A (shown ∷ past)) a_now
-      (λ v w has now. elim (Contains-append_cases (valid k past) (valid_now k A (shown ∷ past)) v has) [
-        | inl before ↦ inl (old-first k B shown past v w small before now)
-        | inr beside ↦ inr (both-now k shown past v w small beside now)
-      ]) in
+    (λ v w has now. elim (Contains-append_cases (valid k past) (valid_now k A (shown ∷ past)) v has) [
+      | inl before ↦ inl (old-first k B shown past v w small before now)
+      | inr beside ↦ inr (both-now k shown past v w small beside now)
+    ]) in
     subst (λ vs. AllPairs Precedes vs) (append_assoc (valid k past) (valid_now k A (shown ∷ past)) (valid_now k B (shown ∷ past))) b_now
 
 pub valid-agree : (k : ℕ) (past : List Pair) → k ≤ 39 → ValidAgree k past

@@ -28,7 +28,7 @@ Tells k past (cuts.Slot i word) =
     (ended_now k past ≡ None) × (slot_now k past ≡ Some record { first = first_tick k past + 40 * i; word = word })
 Tells k past (cuts.Ended slots rest) =
     (ended_now k past ≡ Some (newest_burst k past)) × (slot_now k past ≡ None)
-      × (length (newest_burst k past).slots ≡ slots) × (rest_of (newest_burst k past) ≡ rest)
+    × (length (newest_burst k past).slots ≡ slots) × (rest_of (newest_burst k past) ≡ rest)
 
 -- what a cut does to the words of the whole slots of the burst that runs
 abbrev pub Collects : Cut → List (Option Word) → List (Option Word) → Type 0
