@@ -99,8 +99,11 @@ pub burst-more : (k : ℕ) (x : Sample) (past : List Sample) (p n : ℕ) → IsB
 burst-more k x past p n b = elim (cases_Bool (is_quiet x)) [
   | inl q ↦ (n, omega arith, rw (quiet-sample x q) (burst-quiet k past p n b))
   | inr pulse ↦ elim (cases_lt (length past) (p + n + suc k)) [
-    | inl on ↦ (n + suc (length past - (p + n)), omega arith,
-        burst-grows k x past p n (length past - (p + n)) (heard-sample x pulse) b (omega (arith, b.inside)) (omega (arith, b.inside, on)))
+    | inl on ↦ (
+      n + suc (length past - (p + n)),
+      omega arith,
+      burst-grows k x past p n (length past - (p + n)) (heard-sample x pulse) b (omega (arith, b.inside)) (omega (arith, b.inside, on)),
+    )
     | inr over ↦ (n, omega arith, burst-stays k x past p n b over)
   ]
 ]
@@ -147,7 +150,7 @@ newest-pulse k x past pulse old = elim (cases_Bool (runs k past)) [
       let first : first_tick k (x ∷ past) ≡ first_tick k past = first_tick-runs k x past on in
       let long : suc (length past) - first_tick k past ≡ (stopped past - first_tick k past) + suc (quiet past) = omega (arith, below, some) in
       rw (now, first, long) (burst-grows k x past (first_tick k past) (stopped past - first_tick k past) (quiet past) (heard-sample x pulse)
-        (old on) (omega (arith, below, some)) (runs-parts k past on).1))
+      (old on) (omega (arith, below, some)) (runs-parts k past on).1))
   | inr off ↦ (
       let now : stopped (x ∷ past) ≡ suc (length past) = stopped-pulse x past pulse in
       let first : first_tick k (x ∷ past) ≡ length past = first_tick-begins k x past off pulse in

@@ -13,7 +13,7 @@ use Rattle.bus_line.proofs.SlotLaws.{reverse-more, newest-from, word-before}
 use Rattle.bus_line.proofs.CutNow.{now-idle, now-pending, now-ended, now-begins, now-pulse}
 use Rattle.bus_line.specs.Spelling.{word_in}
 use Rattle.bus_line.specs.Past.{quiet, samples_from, quiet_ticks, stopped, runs, first_tick, slot_word, newest_burst, burst_from, ended_now, slot_number, slot_between}
-use Rattle.bus_line.specs.Cutting.{Follows, begun, cut_of, cut_now, newest_samples}
+use Rattle.bus_line.specs.Cutting.{Follows, CutterStands, begun, cut_of, cut_now, newest_samples}
 use Rattle.bus_line.proofs.PastLaws.{quiet-le, stopped-quiet, quiet-pulse, stopped-more, stopped-pulse, runs-parts, runs-from, rests-parts, rests-from, runs-pulse, rests-more, first_tick-runs, first_tick-begins, first_tick-lt}
 
 -- the samples kept, with one more
@@ -209,3 +209,20 @@ module _ (k : ℕ) (c : Cutter) (past : List Sample) (s : Follows k c past) wher
       let word : word_in (samples_from (x ∷ past) (first_tick k past + 40 * c.slots) 40) ≡ None =
       word-before (first_tick k past + 40 * c.slots) (place - 40) x past (omega (arith, here, at, crossed)) (omega (arith, same, at, s.short)) in
       sym (cut ∙ ap (cuts.Slot c.slots) word)
+
+-- where no burst runs, further quiet ticks change nothing
+follows-quiet : (k : ℕ) (c : Cutter) (past : List Sample) (n : ℕ) → runs k past ≡ false → Follows k c past → Follows k c (quiet_ticks n ++ past)
+follows-quiet k c past zero rests f = f
+follows-quiet k c past (suc n) rests f =
+    let idle : k < c.quiet = grind (arith, nat_tests, f.runs, rests) in
+    idle-stands k c (quiet_ticks n ++ past) (follows-quiet k c past n rests f) idle
+
+pub stands-quiet : (k : ℕ) (c : Cutter) (past : List Sample) (n : ℕ) → runs k past ≡ false → CutterStands k c past → CutterStands k c (quiet_ticks n ++ past)
+unfolding CutterStands
+stands-quiet k c past n rests f = follows-quiet k c past n rests f
+
+pub quiet-alone-rests : (k : ℕ) (past : List Sample) → (k < quiet past) ⊎ (quiet past ≡ length past) → runs k past ≡ false
+quiet-alone-rests k past h = rests-from k past (elim h [
+  | inl many ↦ inr many
+  | inr all ↦ inl (omega (arith, all))
+])

@@ -24,7 +24,7 @@ pub end_since-now : (k : ℕ) (x : Sample) (past : List Sample) (a : ℕ) → a 
 unfolding end_since
 end_since-now k x past a h = let late : nat_lt (length past) a ≡ false = le-ltb (length past) a h in rw late refl
 
-cases-option : (o : Option ℕ) → (o ≡ None) ⊎ ((e : ℕ) × (o ≡ Some e))
+pub cases-option : (o : Option ℕ) → (o ≡ None) ⊎ ((e : ℕ) × (o ≡ Some e))
 cases-option None = inl refl
 cases-option (Some e) = inr (e, refl)
 
@@ -57,13 +57,16 @@ none-now : (k : ℕ) (x : Sample) (past : List Sample) (a : ℕ) → a ≤ lengt
     (end_since k past a ≡ None) × (min (quiet (x ∷ past)) (suc (length past) - a) ≤ k)
 none-now k x past a late h = elim (cases-option (end_since k past a)) [
   | inr found ↦ (let some : None ≡ Some found.0 = sym h ∙ end_since-stays k x past a found.0 found.1 in cc)
-  | inl none ↦ (none, elim (cases_lt k (min (quiet (x ∷ past)) (suc (length past) - a))) [
-    | inr few ↦ few
-    | inl many ↦ (
-        let holds : nat_le (suc k) (min (quiet (x ∷ past)) (suc (length past) - a)) ≡ true = grind (arith, nat_tests, many) in
-        let some : None ≡ Some (length past - k) = sym h ∙ end_since-now k x past a late ∙ (rw (none, holds) refl) in
-        cc)
-  ])
+  | inl none ↦ (
+    none,
+    elim (cases_lt k (min (quiet (x ∷ past)) (suc (length past) - a))) [
+      | inr few ↦ few
+      | inl many ↦ (
+          let holds : nat_le (suc k) (min (quiet (x ∷ past)) (suc (length past) - a)) ≡ true = grind (arith, nat_tests, many) in
+          let some : None ≡ Some (length past - k) = sym h ∙ end_since-now k x past a late ∙ (rw (none, holds) refl) in
+          cc)
+    ],
+  )
 ]
 
 -- where no end was found, no k + 1 ticks in a row from a on were quiet
@@ -92,7 +95,7 @@ is-end-now k x past a late none many = record {
   known = omega (arith, many);
   quiet = λ t p q. quiet-since (x ∷ past) t (omega (arith, many, p));
   first = λ u p q. let w = end_since-none k past a u none p (omega (arith, q)) in
-    (w.0, w.1, w.2, λ h. w.3 (sym (at-more x past w.0 (omega (arith, w.2, q))) ∙ h));
+      (w.0, w.1, w.2, λ h. w.3 (sym (at-more x past w.0 (omega (arith, w.2, q))) ∙ h));
 }
 
 -- what is found is the end by tick numbers

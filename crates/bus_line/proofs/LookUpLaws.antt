@@ -47,7 +47,7 @@ ends-agree k past = record { found = ended-found k past; all = λ p n inside e. 
 -- ---- slots
 
 -- the number of a slot that became whole between so many ticks of a burst and so many
-between-some : (before now i : ℕ) → slot_between before now ≡ Some i → (before < 40 * suc i) × (40 * suc i ≤ now)
+pub between-some : (before now i : ℕ) → slot_between before now ≡ Some i → (before < 40 * suc i) × (40 * suc i ≤ now)
 between-some before now i h = elim (cases_lt (before / 40) (now / 40)) [
   | inl more ↦ (
       let holds : slot_between before now ≡ Some (now / 40 - 1) = grind (arith, nat_tests, more) in
@@ -66,7 +66,7 @@ between-is before now i low whole high =
     let same : now / 40 - 1 ≡ i = omega (arith, new) in
     holds ∙ (rw same refl)
 
-slot-is-now : (k : ℕ) (x : Sample) (past : List Sample) (i : ℕ) → is_quiet x ≡ false → runs k past ≡ true →
+pub slot-is-now : (k : ℕ) (x : Sample) (past : List Sample) (i : ℕ) → is_quiet x ≡ false → runs k past ≡ true →
     slot_between (stopped past - first_tick k past) (suc (length past) - first_tick k past) ≡ Some i →
     IsSlotNow k (x ∷ past) (first_tick k (x ∷ past)) i
 slot-is-now k x past i pulse on found =
@@ -94,17 +94,17 @@ slot-found k (x ∷ past) = elim (cases_Bool (is_quiet x || not (runs k past))) 
   | inl fails ↦ rw fails tt
   | inr holds ↦ (let parts = or_parts (is_quiet x) (not (runs k past)) holds in
       rw holds (some-found k x past (slot_between (stopped past - first_tick k past) (suc (length past) - first_tick k past))
-        (λ i e. slot-is-now k x past i parts.0 (not-false (runs k past) parts.1) e)))
+      (λ i e. slot-is-now k x past i parts.0 (not-false (runs k past) parts.1) e)))
 ]
 
 -- where the ticks before the newest are quiet from e on, the stop before it is no later
-stopped-before : (x : Sample) (past : List Sample) (e : ℕ) → e ≤ length past → ((t : ℕ) → e ≤ t → suc t < length (x ∷ past) → IsQuietAt (x ∷ past) t) → stopped past ≤ e
+pub stopped-before : (x : Sample) (past : List Sample) (e : ℕ) → e ≤ length past → ((t : ℕ) → e ≤ t → suc t < length (x ∷ past) → IsQuietAt (x ∷ past) t) → stopped past ≤ e
 stopped-before x past e within after = elim (cases_lt e (stopped past)) [
   | inr low ↦ low
   | inl high ↦ absurd (
       let below : quiet past ≤ length past = quiet-le past in
       heard-last past (stopped past - 1) (omega (arith, high))
-        (sym (at-more x past (stopped past - 1) (omega (arith, high, below))) ∙ after (stopped past - 1) (omega (arith, high)) (omega (arith, high, below))))
+      (sym (at-more x past (stopped past - 1) (omega (arith, high, below))) ∙ after (stopped past - 1) (omega (arith, high)) (omega (arith, high, below))))
 ]
 
 -- two slots don't become whole at once: so many quiet ticks stand in no burst
@@ -131,8 +131,8 @@ slot-all k (x ∷ past) p i small s =
           let stop : stopped past ≤ p + 40 * i + 39 = stopped-before x past (p + 40 * i + 39) (omega (arith, s.whole, s.now)) s.since in
           let short : s.ticks < 40 * suc (suc i) = slot-last k (x ∷ past) p i small s in
           let number : slot_between (stopped past - first_tick k past) (suc (length past) - first_tick k past) ≡ Some i =
-            between-is (stopped past - first_tick k past) (suc (length past) - first_tick k past) i
-              (omega (arith, is.0, first, stop)) (omega (arith, is.0, first, s.whole, s.now)) (omega (arith, is.0, first, short, s.now)) in
+          between-is (stopped past - first_tick k past) (suc (length past) - first_tick k past) i
+          (omega (arith, is.0, first, stop)) (omega (arith, is.0, first, s.whole, s.now)) (omega (arith, is.0, first, short, s.now)) in
           rw (pulse, on) number)
     ]
 

@@ -1,7 +1,7 @@
 -- A burst that is cut out of a past: its samples, its slots and their words.
 use Rattle.std.proofs.Common.{◌≡◌, ℕ, zero, suc, ◌+◌, ◌-◌, ◌*◌, ◌/◌, ◌<◌, ◌≤◌, List, [], ◌∷◌, ◌++◌, map, reverse, length, take, drop, Some, None, Option, refl, sym, ap, ◌∙◌, arith, length-append}
 use Rattle.std.specs.List.{range_with_len}
-use Rattle.std.proofs.lemmas.List.{reverse-append}
+use Rattle.std.proofs.lemmas.List.{reverse-append, length-reverse, length-take, get_or_at}
 use Rattle.std.proofs.lemmas.List.FromFn.{length-map-range_with_len, map-range_with_len_more}
 use Rattle.bus_base.specs.declared.samples.Sample.{Sample}
 use Rattle.bus_base.specs.declared.samples.Sample.TheVariants.{Plus, Minus, Quiet}
@@ -9,7 +9,7 @@ use Rattle.bus_words.specs.declared.word.Word.{Word}
 use Rattle.bus_line.specs.Spelling.{word_in}
 use Rattle.bus_line.specs.Past.{quiet, samples_from, slot_word, burst_from}
 use Rattle.bus_line.specs.Cutting.{newest_samples}
-use Rattle.bus_line.proofs.QuietSlots.{word-quiet}
+use Rattle.bus_line.proofs.Heard.{word_in-quiet}
 
 pub reverse-more : (x : Sample) (past : List Sample) → reverse (x ∷ past) ≡ reverse past ++ x ∷ []
 reverse-more x past = reverse-append (x ∷ []) past
@@ -25,12 +25,18 @@ quiet-place (Minus ∷ past) j h = absurd (omega (arith, h))
 quiet-place (Quiet ∷ past) zero h = refl
 quiet-place (Quiet ∷ past) (suc j) h = quiet-place past j (omega (arith, h))
 
+word-quiet : (xs : List Sample) → length xs < 40 → word_in (xs ++ Quiet ∷ []) ≡ None
+word-quiet xs short = word_in-quiet (xs ++ Quiet ∷ []) (length xs) short (get_or_at xs Quiet [] Quiet (length xs) refl)
+
 -- a slot whose last tick was quiet has no word
 pub word-before : (q j : ℕ) (x : Sample) (past : List Sample) → q + 40 + j ≡ length past → j < quiet past → word_in (samples_from (x ∷ past) q 40) ≡ None
 word-before q j x past here within =
     let at : suc (length past) - (q + 40) ≡ suc j = omega (arith, here) in
     let head : drop j past ≡ Quiet ∷ drop (suc j) past = quiet-place past j within in
-    rw (at, head, reverse-more Quiet (take 39 (drop (suc j) past))) (word-quiet (reverse (take 39 (drop (suc j) past))) [])
+    rw (at, head, reverse-more Quiet (take 39 (drop (suc j) past))) (word-quiet (reverse (take 39 (drop (suc j) past))) (simp (length-reverse, length-take) (omega arith)))
+
+pub newest-quiet : (past : List Sample) → word_in (newest_samples 40 (Quiet ∷ past)) ≡ None
+newest-quiet past = rw (reverse-more Quiet (take 39 past)) (word-quiet (reverse (take 39 past)) (simp (length-reverse, length-take) (omega arith)))
 
 -- a tick more changes no samples before it
 pub samples-more : (x : Sample) (past : List Sample) (p n : ℕ) → p + n ≤ length past → samples_from (x ∷ past) p n ≡ samples_from past p n
