@@ -34,8 +34,8 @@ heeded k x past sent later few (inr now) h =
     absurd (true≢false (sym (ignored-now k x past few) ∙ (ap (ignored_from k (x ∷ past)) (sym now) ∙ h)))
 heeded k x past sent later few (inl same) h =
     elim (cases_Bool (ignored_from k past sent)) [
-      inl ignored ↦ absurd (true≢false (sym (ignored-on k x past sent few ignored) ∙ (ap (ignored_from k (x ∷ past)) (sym same) ∙ h)))
-    | inr free ↦ free
+      | inl ignored ↦ absurd (true≢false (sym (ignored-on k x past sent few ignored) ∙ (ap (ignored_from k (x ∷ past)) (sym same) ∙ h)))
+      | inr free ↦ free
     ]
 
 is-none : {A : Type 0} (o : Option A) → is_some o ≡ false → o ≡ None
@@ -63,7 +63,7 @@ new-slot k x past i small heard running whole new =
     let few : quiet past ≤ k = grind (arith, running) in
     let within : quiet past ≤ length past = quiet-le past in
     let found : slot_between (stopped past - first_tick k past) (suc (length past) - first_tick k past) ≡ Some i =
-      becomes-whole i _ _ (omega (arith, new)) (omega (arith, whole)) (omega (arith, small, few, within, whole, new)) in
+    becomes-whole i _ _ (omega (arith, new)) (omega (arith, whole)) (omega (arith, small, few, within, whole, new)) in
     rw (heard, running) found
 
 new-bare : (own k : ℕ) (x : Sample) (past : List Sample) (i : ℕ) → runs k past ≡ true → slot_number k (x ∷ past) ≡ Some i →
@@ -71,7 +71,7 @@ new-bare : (own k : ℕ) (x : Sample) (past : List Sample) (i : ℕ) → runs k 
 new-bare own k x past i running number h =
     let first : first_tick k (x ∷ past) ≡ first_tick k past = first-on k x past running in
     let slot : slot_now k (x ∷ past) ≡ Some (record { first = first_tick k past + 40 * i; word = slot_word (x ∷ past) (first_tick k past) i }) =
-      rw (number, first) refl in
+    rw (number, first) refl in
     is-none _ (ap (is_addressed own) (sym slot) ∙ h)
 
 -- a tick in which the channel is quiet
@@ -83,7 +83,7 @@ bare-quiet own k past sent mark before few some free none i fits =
     let stop : stopped (Quiet ∷ past) ≡ stopped past = omega (arith, within) in
     let running : runs k past ≡ true = grind (arith, few, some, stop) in
     rw (slot-later Quiet past (first_tick k past) i (omega (arith, fits, stop)))
-      (before.bare running free none i (omega (arith, fits, stop)))
+    (before.bare running free none i (omega (arith, fits, stop)))
 
 -- a tick in which it isn't, while the burst runs
 bare-heard : (own k : ℕ) (x : Sample) (past : List Sample) (sent mark : Option ℕ) → IsMarked own k past sent mark → k < 40 → is_quiet x ≡ false →
@@ -91,8 +91,8 @@ bare-heard : (own k : ℕ) (x : Sample) (past : List Sample) (sent mark : Option
     (i : ℕ) → first_tick k past + 40 * i + 40 ≤ suc (length past) → command_for own (slot_word (x ∷ past) (first_tick k past) i) ≡ None
 bare-heard own k x past sent mark before small heard running free none unaddressed i fits =
     elim (cases_lt (stopped past) (first_tick k past + 40 * i + 40)) [
-      inl new ↦ new-bare own k x past i running (new-slot k x past i small heard running fits new) unaddressed
-    | inr old ↦ rw (slot-later x past (first_tick k past) i (omega (arith, old))) (before.bare running free none i old)
+      | inl new ↦ new-bare own k x past i running (new-slot k x past i small heard running fits new) unaddressed
+      | inr old ↦ rw (slot-later x past (first_tick k past) i (omega (arith, old))) (before.bare running free none i old)
     ]
 
 -- the ticks of a burst that has just begun have no whole slot
@@ -116,13 +116,13 @@ bare-on own k Quiet past sent mark before small running free none unaddressed i 
     bare-quiet own k past sent mark before (grind (arith, running)) (grind (arith, running)) free none i fits
 bare-on own k Plus past sent mark before small running free none unaddressed i fits =
     elim (cases_Bool (runs k past)) [
-      inl on ↦ rw (first-on k Plus past on) (bare-heard own k Plus past sent mark before small refl on free none unaddressed i (rw-fits k Plus past i on fits))
-    | inr over ↦ absurd (first-slot k Plus past i refl over fits)
+      | inl on ↦ rw (first-on k Plus past on) (bare-heard own k Plus past sent mark before small refl on free none unaddressed i (rw-fits k Plus past i on fits))
+      | inr over ↦ absurd (first-slot k Plus past i refl over fits)
     ]
 bare-on own k Minus past sent mark before small running free none unaddressed i fits =
     elim (cases_Bool (runs k past)) [
-      inl on ↦ rw (first-on k Minus past on) (bare-heard own k Minus past sent mark before small refl on free none unaddressed i (rw-fits k Minus past i on fits))
-    | inr over ↦ absurd (first-slot k Minus past i refl over fits)
+      | inl on ↦ rw (first-on k Minus past on) (bare-heard own k Minus past sent mark before small refl on free none unaddressed i (rw-fits k Minus past i on fits))
+      | inr over ↦ absurd (first-slot k Minus past i refl over fits)
     ]
 
 -- one tick more, with the marks that it leaves

@@ -43,5 +43,5 @@ marked-always k t loads memory B [] small = marked-first t.address k
 marked-always k t loads memory c (now ∷ ticks) small =
     let s = standing k t loads memory ticks in
     rw (sent-after k t loads now ticks s c, addressed-after k t loads now ticks s c)
-      (marked-on t.address k (sample_on now.shown c) (heard_on c ticks) (mark_on s.sent c) (mark_on s.addressed c) _ _
-        (marked-always k t loads memory c ticks small) small (sent-either k t ticks s c) (rw (heard-long c ticks) refl))
+    (marked-on t.address k (sample_on now.shown c) (heard_on c ticks) (mark_on s.sent c) (mark_on s.addressed c) _ _
+    (marked-always k t loads memory c ticks small) small (sent-either k t ticks s c) (rw (heard-long c ticks) refl))

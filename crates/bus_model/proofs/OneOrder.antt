@@ -44,8 +44,8 @@ unmarked-ends own k past sent before q some free =
     let stop : stopped (Quiet ∷ past) ≡ stopped past = omega (arith, within) in
     let running : runs k past ≡ true = grind (arith, q, some, stop) in
     bare-none own (slot_word (Quiet ∷ past) (first_tick k past)) 0 ((stopped (Quiet ∷ past) - first_tick k past) / 40)
-      (λ i low high. rw (slot-later Quiet past (first_tick k past) i (omega (arith, high, stop)))
-        (before.bare running free refl i (omega (arith, high, stop))))
+    (λ i low high. rw (slot-later Quiet past (first_tick k past) i (omega (arith, high, stop)))
+    (before.bare running free refl i (omega (arith, high, stop))))
 
 -- a burst with a command is a burst of forty ticks at least
 ordered-end : (own k : ℕ) (past : List Sample) (last : Order) → last_order own (newest_burst k past).slots ≡ Some last →
@@ -53,10 +53,10 @@ ordered-end : (own k : ℕ) (past : List Sample) (last : Order) → last_order o
 unfolding burst_from
 ordered-end own k past last h =
     elim (cases_lt (stopped past - first_tick k past) 40) [
-      inl short ↦
-        let none : (stopped past - first_tick k past) / 40 ≡ 0 = omega (arith, short) in
-        absurd (some-none last (sym (ap (λ n. last_order own (map (slot_word past (first_tick k past)) (range_with_len 0 n))) none) ∙ h))
-    | inr long ↦ omega (arith, long)
+      | inl short ↦
+          let none : (stopped past - first_tick k past) / 40 ≡ 0 = omega (arith, short) in
+          absurd (some-none last (sym (ap (λ n. last_order own (map (slot_word past (first_tick k past)) (range_with_len 0 n))) none) ∙ h))
+      | inr long ↦ omega (arith, long)
     ]
 
 pub cases-option : {X : Type 0} (o : Option X) → (o ≡ None) ⊎ ((a : X) × (o ≡ Some a))
@@ -73,36 +73,36 @@ seen-command : (k : ℕ) (t : TerminalData) (s : Standing) (c : Channel) (past :
     order_by k t s c (newest_burst k (Quiet ∷ past)) (Some last) ≡ Some h → Seen k tick s c h
 seen-command k t s c past tick last h marked q some free long found given =
     elim (cases_Bool (outrun s c)) [
-      inl older ↦
-        let none : order_by k t s c (newest_burst k (Quiet ∷ past)) (Some last) ≡ None = rw older refl in
-        absurd (some-none h (sym none ∙ given))
-    | inr newer ↦
-        let within : quiet past ≤ length past = quiet-le past in
-        let ended : end_of (newest_burst k (Quiet ∷ past)) ≡ stopped (Quiet ∷ past) = ordered-end t.address k (Quiet ∷ past) last found in
-        let order : Handled = obeys c (end_of (newest_burst k (Quiet ∷ past))) last (rest_of (newest_burst k (Quiet ∷ past))) in
-        let by : order_by k t s c (newest_burst k (Quiet ∷ past)) (Some last) ≡ Some order = rw newer refl in
-        let same : order ≡ h = some-same _ _ (sym by ∙ given) in
-        elim (cases-option (mark_on s.addressed c)) [
-          inl none ↦
-            let bare : last_order t.address (newest_burst k (Quiet ∷ past)).slots ≡ None =
-              unmarked-ends t.address k past (mark_on s.sent c) (subst (IsMarked t.address k past (mark_on s.sent c)) none marked) q some free in
-            absurd (some-none last (sym bare ∙ found))
-        | inr mark ↦ subst (Seen k tick s c) same
-            (refl, omega (arith, ended, q, within, long), mark, newer)
-        ]
+      | inl older ↦
+          let none : order_by k t s c (newest_burst k (Quiet ∷ past)) (Some last) ≡ None = rw older refl in
+          absurd (some-none h (sym none ∙ given))
+      | inr newer ↦
+          let within : quiet past ≤ length past = quiet-le past in
+          let ended : end_of (newest_burst k (Quiet ∷ past)) ≡ stopped (Quiet ∷ past) = ordered-end t.address k (Quiet ∷ past) last found in
+          let order : Handled = obeys c (end_of (newest_burst k (Quiet ∷ past))) last (rest_of (newest_burst k (Quiet ∷ past))) in
+          let by : order_by k t s c (newest_burst k (Quiet ∷ past)) (Some last) ≡ Some order = rw newer refl in
+          let same : order ≡ h = some-same _ _ (sym by ∙ given) in
+          elim (cases-option (mark_on s.addressed c)) [
+            | inl none ↦
+                let bare : last_order t.address (newest_burst k (Quiet ∷ past)).slots ≡ None =
+                unmarked-ends t.address k past (mark_on s.sent c) (subst (IsMarked t.address k past (mark_on s.sent c)) none marked) q some free in
+                absurd (some-none last (sym bare ∙ found))
+            | inr mark ↦ subst (Seen k tick s c) same
+                (refl, omega (arith, ended, q, within, long), mark, newer)
+          ]
     ]
 
 -- another burst is taken for a promise on its channel
 seen-promise : (k : ℕ) (t : TerminalData) (tick : ℕ) (s : Standing) (c : Channel) (burst : Burst) (h : Handled) → order_by k t s c burst None ≡ Some h → Seen k tick s c h
 seen-promise k t tick s c burst h given =
     elim (cases_Bool (promised_on k s c && nat_le burst.first (s.end + relay_wait))) [
-      inl holds ↦
-        let order : Handled = settles (end_of burst) burst.slots (rest_of burst) in
-        let by : order_by k t s c burst None ≡ Some order = rw holds refl in
-        subst (Seen k tick s c) (some-same _ _ (sym by ∙ given)) (and_parts _ _ holds).0
-    | inr fails ↦
-        let none : order_by k t s c burst None ≡ None = rw fails refl in
-        absurd (some-none h (sym none ∙ given))
+      | inl holds ↦
+          let order : Handled = settles (end_of burst) burst.slots (rest_of burst) in
+          let by : order_by k t s c burst None ≡ Some order = rw holds refl in
+          subst (Seen k tick s c) (some-same _ _ (sym by ∙ given)) (and_parts _ _ holds).0
+      | inr fails ↦
+          let none : order_by k t s c burst None ≡ None = rw fails refl in
+          absurd (some-none h (sym none ∙ given))
     ]
 
 seen-last : (k : ℕ) (t : TerminalData) (s : Standing) (c : Channel) (past : List Sample) (tick : ℕ) (last : Option Order) (h : Handled) →
@@ -121,7 +121,7 @@ seen-quiet k t s c Minus past tick h marked free long ends given = absurd (omega
 seen-quiet k t s c Quiet past tick h marked free long ends given =
     let found : ended_now k (Quiet ∷ past) ≡ Some (newest_burst k (Quiet ∷ past)) = grind (arith, ends.0, ends.1) in
     seen-last k t s c past tick (last_order t.address (newest_burst k (Quiet ∷ past)).slots) h marked (omega (arith, ends.0)) ends.1 free long refl
-      (sym (ap (order_of k t s c) found) ∙ given)
+    (sym (ap (order_of k t s c) found) ∙ given)
 
 ends-so : (k : ℕ) (past : List Sample) → ((quiet past == suc k) && nat_lt 0 (stopped past)) ≡ true → (quiet past ≡ suc k) × (0 < stopped past)
 ends-so k past h = grind (arith, h)
@@ -132,17 +132,17 @@ pub seen : (k : ℕ) (t : TerminalData) (loads : List TimedLoad) (memory : Memor
 seen k t loads memory now past c h small given =
     let s = standing k t loads memory past in
     elim (cases_Bool (ignored_from k (heard_on c past) (mark_on s.sent c))) [
-      inl ignored ↦
-        let none : order_on k t (now ∷ past) s c ≡ None = rw ignored refl in
-        absurd (some-none h (sym none ∙ given))
-    | inr free ↦
-        let by : order_on k t (now ∷ past) s c ≡ order_of k t s c (ended_now k (heard_on c (now ∷ past))) = rw free refl in
-        elim (cases_Bool ((quiet (heard_on c (now ∷ past)) == suc k) && nat_lt 0 (stopped (heard_on c (now ∷ past))))) [
-          inl ends ↦
-            seen-quiet k t s c (sample_on now.shown c) (heard_on c past) (length past) h (marked-always k t loads memory c past small) free
-              (heard-long c past) (ends-so k (heard_on c (now ∷ past)) ends) (sym by ∙ given)
-        | inr goes ↦
-            let none : order_of k t s c (ended_now k (heard_on c (now ∷ past))) ≡ None = rw goes refl in
-            absurd (some-none h (sym none ∙ (sym by ∙ given)))
-        ]
+      | inl ignored ↦
+          let none : order_on k t (now ∷ past) s c ≡ None = rw ignored refl in
+          absurd (some-none h (sym none ∙ given))
+      | inr free ↦
+          let by : order_on k t (now ∷ past) s c ≡ order_of k t s c (ended_now k (heard_on c (now ∷ past))) = rw free refl in
+          elim (cases_Bool ((quiet (heard_on c (now ∷ past)) == suc k) && nat_lt 0 (stopped (heard_on c (now ∷ past))))) [
+            | inl ends ↦
+                seen-quiet k t s c (sample_on now.shown c) (heard_on c past) (length past) h (marked-always k t loads memory c past small) free
+                (heard-long c past) (ends-so k (heard_on c (now ∷ past)) ends) (sym by ∙ given)
+            | inr goes ↦
+                let none : order_of k t s c (ended_now k (heard_on c (now ∷ past))) ≡ None = rw goes refl in
+                absurd (some-none h (sym none ∙ (sym by ∙ given)))
+          ]
     ]

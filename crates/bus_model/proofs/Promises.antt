@@ -95,10 +95,10 @@ now-newest : (k : ℕ) (t : TerminalData) (loads : List TimedLoad) (memory : Mem
 now-newest k t loads memory now past c e last rest small given =
     let s = standing k t loads memory past in
     elim (either-option (order_on k t (now ∷ past) s A) _ _ given) [
-      inl onA ↦ obeyed-newest k (length past) s A c e last rest (seen k t loads memory now past A _ small onA)
-    | inr later ↦ elim (either-option (order_on k t (now ∷ past) s B) _ _ later) [
-        inl onB ↦ obeyed-newest k (length past) s B c e last rest (seen k t loads memory now past B _ small onB)
-      | inr out ↦ absurd (not-running-out c e last rest (runs-out-alone _ _ out))
+      | inl onA ↦ obeyed-newest k (length past) s A c e last rest (seen k t loads memory now past A _ small onA)
+      | inr later ↦ elim (either-option (order_on k t (now ∷ past) s B) _ _ later) [
+        | inl onB ↦ obeyed-newest k (length past) s B c e last rest (seen k t loads memory now past B _ small onB)
+        | inr out ↦ absurd (not-running-out c e last rest (runs-out-alone _ _ out))
       ]
     ]
 
@@ -120,10 +120,10 @@ below-on : (k : ℕ) (t : TerminalData) (loads : List TimedLoad) (now : Moment) 
 below-on k t loads now past s before c a h =
     let marked : addressed_on k t (now ∷ past) s c ≡ Some a = sym (addressed-after k t loads now past s c) ∙ h in
     elim (addressed-either k t now past s c) [
-      inl same ↦ omega (arith, before c a (sym same ∙ marked))
-    | inr here ↦
-        let tick : length past ≡ a = some-same _ _ (sym here ∙ marked) in
-        omega (arith, tick)
+      | inl same ↦ omega (arith, before c a (sym same ∙ marked))
+      | inr here ↦
+          let tick : length past ≡ a = some-same _ _ (sym here ∙ marked) in
+          omega (arith, tick)
     ]
 
 newest-on : (k : ℕ) (t : TerminalData) (loads : List TimedLoad) (now : Moment) (past : List Moment) (s : Standing) (c : Channel) (e : ℕ) →
@@ -132,13 +132,13 @@ newest-on : (k : ℕ) (t : TerminalData) (loads : List TimedLoad) (now : Moment)
 newest-on k t loads now past s c e below newest =
     let o = other_of c in
     let other : (mark_on (after_tick k t loads now past s).addressed o ≡ mark_on s.addressed o)
-            ⊎ (mark_on (after_tick k t loads now past s).addressed o ≡ Some (length past)) =
-      rw (addressed-after k t loads now past s o) (addressed-either k t now past s o) in
+    ⊎ (mark_on (after_tick k t loads now past s).addressed o ≡ Some (length past)) =
+    rw (addressed-after k t loads now past s o) (addressed-either k t now past s o) in
     let this : (mark_on (after_tick k t loads now past s).addressed c ≡ Some newest.m)
-            ⊎ (mark_on (after_tick k t loads now past s).addressed c ≡ Some (length past)) =
-      rw (addressed-after k t loads now past s c, sym newest.marked) (addressed-either k t now past s c) in
+    ⊎ (mark_on (after_tick k t loads now past s).addressed c ≡ Some (length past)) =
+    rw (addressed-after k t loads now past s c, sym newest.marked) (addressed-either k t now past s c) in
     let kept = stays-newest k (length past) e newest.m o (mark_on s.addressed o) (mark_on (after_tick k t loads now past s).addressed o)
-        (mark_on (after_tick k t loads now past s).addressed c) newest.newest newest.known (below o) other this in
+    (mark_on (after_tick k t loads now past s).addressed c) newest.newest newest.known (below o) other this in
     record { m = kept.0; marked = kept.1; newest = kept.2; known = omega (arith, newest.known) }
 
 no-marks : (c : Channel) (a : ℕ) → mark_on no_marks c ≡ Some a → a < 0
@@ -157,5 +157,5 @@ stands-always k t loads memory (now ∷ past) small =
       below = below-on k t loads now past s before.below;
       promised = λ promise. newest-on k t loads now past s _ _ before.below
           (left-newest k t loads (length past) now.may s (order_now k t (now ∷ past) s) before
-            (λ c e last rest given. now-newest k t loads memory now past c e last rest small given) promise);
+          (λ c e last rest given. now-newest k t loads memory now past c e last rest small given) promise);
     }

@@ -21,7 +21,7 @@ pub bare-none : (own : ℕ) (f : ℕ → Option Word) (start n : ℕ) →
 bare-none own f start zero h = refl
 bare-none own f start (suc n) h =
     let rest : last_order own (map f (range_with_len (start + 1) n)) ≡ None =
-      bare-none own f (start + 1) n (λ i low high. h i (omega (arith, low)) (omega (arith, high))) in
+    bare-none own f (start + 1) n (λ i low high. h i (omega (arith, low)) (omega (arith, high))) in
     let here : command_for own (f start) ≡ None = h start (omega arith) (omega arith) in
     rw (rest, here) refl
 

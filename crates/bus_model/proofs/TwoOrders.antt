@@ -21,21 +21,27 @@ one-newer a b older newer = grind (arith, older, newer)
 both-outrun : (s : Standing) (a b : ℕ) → mark_on s.addressed A ≡ Some a → mark_on s.addressed B ≡ Some b → outrun s A ≡ false → outrun s B ≡ false → ⊥
 both-outrun s a b marked-a marked-b first second =
     one-newer a b
-      (sym (ap (λ m. is_newer B m (mark_on s.addressed A)) marked-b ∙ ap (is_newer B (Some b)) marked-a) ∙ first)
-      (sym (ap (λ m. is_newer A m (mark_on s.addressed B)) marked-a ∙ ap (is_newer A (Some a)) marked-b) ∙ second)
+    (sym (ap (λ m. is_newer B m (mark_on s.addressed A)) marked-b ∙ ap (is_newer B (Some b)) marked-a) ∙ first)
+    (sym (ap (λ m. is_newer A m (mark_on s.addressed B)) marked-a ∙ ap (is_newer A (Some a)) marked-b) ∙ second)
 
 -- a promise that stands on a channel: what is known of the marks
 standing-promise : (k n : ℕ) (s : Standing) (c : Channel) → Stands k n s → promised_on k s c ≡ true →
     (same_channel s.channel c ≡ true) × ((m : ℕ) × (mark_on s.addressed s.channel ≡ Some m)
-      × (is_newer (other_of s.channel) (mark_on s.addressed (other_of s.channel)) (Some m) ≡ false))
+    × (is_newer (other_of s.channel) (mark_on s.addressed (other_of s.channel)) (Some m) ≡ false))
 standing-promise k n s c stands h =
     let outer = and_parts (is_promise s.duty && same_channel s.channel c) (not (superseded k s)) h in
     let inner = and_parts (is_promise s.duty) (same_channel s.channel c) outer.0 in
-    let newest : Newest k n s.channel s.end s.addressed = stands.promised inner.0 in
-    (inner.1, (newest.m, newest.marked, elim newest.newest [
-      inl from ↦ absurd (true≢false (sym outer.1 ∙ ap not from))
-    | inr older ↦ older
-    ]))
+    let newest : Newest k n s.channel s.end s.addressed = stands.promised inner.0 in (
+      inner.1,
+      (
+        newest.m,
+        newest.marked,
+        elim newest.newest [
+          | inl from ↦ absurd (true≢false (sym outer.1 ∙ ap not from))
+          | inr older ↦ older
+        ],
+      ),
+    )
 
 -- a promise on A stands beside no newer command on B, and the other way round
 on-a : (k n : ℕ) (s : Standing) (c : Channel) → s.channel ≡ c → (b : ℕ) → Stands k n s → promised_on k s A ≡ true → mark_on s.addressed B ≡ Some b →
@@ -44,7 +50,7 @@ on-a k n s A on b stands h marked newer =
     let promise = standing-promise k n s A stands h in
     let own : mark_on s.addressed A ≡ Some promise.1.0 = sym (ap (mark_on s.addressed) on) ∙ promise.1.1 in
     let older : is_newer B (mark_on s.addressed B) (Some promise.1.0) ≡ false =
-      sym (ap (λ c. is_newer (other_of c) (mark_on s.addressed (other_of c)) (Some promise.1.0)) on) ∙ promise.1.2 in
+    sym (ap (λ c. is_newer (other_of c) (mark_on s.addressed (other_of c)) (Some promise.1.0)) on) ∙ promise.1.2 in
     both-outrun s promise.1.0 b own marked (ap (is_newer B (mark_on s.addressed B)) own ∙ older) newer
 on-a k n s B on b stands h marked newer =
     let promise = standing-promise k n s A stands h in
@@ -56,7 +62,7 @@ on-b k n s B on a stands h marked newer =
     let promise = standing-promise k n s B stands h in
     let own : mark_on s.addressed B ≡ Some promise.1.0 = sym (ap (mark_on s.addressed) on) ∙ promise.1.1 in
     let older : is_newer A (mark_on s.addressed A) (Some promise.1.0) ≡ false =
-      sym (ap (λ c. is_newer (other_of c) (mark_on s.addressed (other_of c)) (Some promise.1.0)) on) ∙ promise.1.2 in
+    sym (ap (λ c. is_newer (other_of c) (mark_on s.addressed (other_of c)) (Some promise.1.0)) on) ∙ promise.1.2 in
     both-outrun s a promise.1.0 marked own newer (ap (is_newer A (mark_on s.addressed A)) own ∙ older)
 on-b k n s A on a stands h marked newer =
     let promise = standing-promise k n s B stands h in
@@ -85,10 +91,10 @@ pub one-order : (k : ℕ) (t : TerminalData) (loads : List TimedLoad) (memory : 
 one-order k t loads memory now past small =
     let s = standing k t loads memory past in
     elim (cases-option (order_on k t (now ∷ past) s A)) [
-      inl none ↦ inl none
-    | inr first ↦ elim (cases-option (order_on k t (now ∷ past) s B)) [
-        inl none ↦ inr none
-      | inr second ↦ absurd (two-seen k (length past) s first.0 second.0 (stands-always k t loads memory past small)
-          (seen k t loads memory now past A first.0 small first.1) (seen k t loads memory now past B second.0 small second.1))
+      | inl none ↦ inl none
+      | inr first ↦ elim (cases-option (order_on k t (now ∷ past) s B)) [
+        | inl none ↦ inr none
+        | inr second ↦ absurd (two-seen k (length past) s first.0 second.0 (stands-always k t loads memory past small)
+            (seen k t loads memory now past A first.0 small first.1) (seen k t loads memory now past B second.0 small second.1))
       ]
     ]

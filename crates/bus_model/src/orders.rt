@@ -12,5 +12,5 @@ ghost use Rattle.bus_model.specs.Terminal.{standing, order_on};
 pub fn at_most_one_order_a_tick()
     ensures { (k : ℕ) (terminal : TerminalData) (loads : List TimedLoad) (memory : Memory) (now : Moment) (past : List Moment) → k < 40 →
         (order_on k terminal (now ∷ past) (standing k terminal loads memory past) A ≡ None)
-            ⊎ (order_on k terminal (now ∷ past) (standing k terminal loads memory past) B ≡ None) }
+        ⊎ (order_on k terminal (now ∷ past) (standing k terminal loads memory past) B ≡ None) }
 {}
