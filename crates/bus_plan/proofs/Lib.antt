@@ -1,0 +1,4 @@
+pub mod Documents
+pub mod Lists
+pub mod Amounts
+pub mod Flips
