@@ -1,0 +1,4 @@
+pub mod PastLaws
+pub mod ChannelLaws
+pub mod MessageLaws
+pub mod LineLaws
