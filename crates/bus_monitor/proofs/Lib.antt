@@ -2,3 +2,4 @@ pub mod PastLaws
 pub mod ChannelLaws
 pub mod MessageLaws
 pub mod LineLaws
+pub mod WordLaws
