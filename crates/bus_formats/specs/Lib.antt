@@ -4,3 +4,4 @@ pub mod Plans
 pub mod Logs
 pub mod Readings
 pub mod Times
+pub mod Accepted
