@@ -1,46 +1,29 @@
 -- A bus controller over all that it heard: its attempts, how each ended, and what it sends (MIL-STD-1553B 4.4.2).
-use Rattle.std.specs.Prelude.{ℕ, ◌+◌, ◌-◌, Bool, true, false, ◌&&◌, ◌==◌, nat_lt, if◌then◌else◌, List, [], length, filter_map, Option, Some, None}
+use Rattle.std.specs.Prelude.{ℕ, ◌+◌, ◌-◌, Bool, true, false, ◌&&◌, ◌==◌, nat_lt, if◌then◌else◌, List, length, Option, Some, None}
 use Rattle.bus_base.specs.declared.samples.Sample.{Sample}
 use Rattle.bus_base.specs.declared.samples.Pair.{Pair}
 use Rattle.bus_base.specs.declared.samples.Part.TheVariants.{Command, First, Second}
 use Rattle.bus_base.specs.declared.samples.Drive.{Drive}
 use Rattle.bus_base.specs.declared.samples.Drive.TheVariants.{Silent}
-use Rattle.bus_words.specs.declared.word.Word.{Word}
 use Rattle.bus_line.specs.Past.{quiet, first_heard, end_since, Burst, burst_from, end_of, rest_of}
 use Rattle.bus_line.specs.Channels.{on_channel, quiet_both}
 use Rattle.bus_formats.specs.Forms.{command_words, answers_of}
 use Rattle.bus_formats.specs.Plans.{ItemData}
-use Rattle.bus_formats.specs.Readings.{read_answer, datum_in}
+use Rattle.bus_formats.specs.Readings.{read_answer}
 use Rattle.bus_formats.specs.Times.{no_response}
 use Rattle.bus_formats.specs.declared.form.Shape.{Shape}
 use Rattle.bus_formats.specs.declared.form.Outcome.{Outcome}
 use Rattle.bus_formats.specs.declared.form.Outcome.TheVariants.{Clear, Sent, NoResponse, BadReply, Abandoned, Yielded}
 use Rattle.bus_formats.specs.declared.form.Reading.{Reading}
 use Rattle.bus_formats.specs.declared.form.Reading.TheVariants.{Good, Ends}
-use Rattle.bus_formats.specs.declared.plan.Kind.{Kind}
-use Rattle.bus_formats.specs.declared.plan.Kind.TheVariants.{Relay}
-use Rattle.bus_retry.specs.declared.RetryState.{RetryState}
-use Rattle.bus_model.specs.Starts.{Entry}
-use Rattle.bus_model.specs.Endings.{is_offer, doubting}
+use Rattle.bus_model.specs.Waits.{doubting}
+use Rattle.bus_model.specs.Attempts.{Begun, Ended, without_words, is_offer, kept_words}
 use Rattle.bus_model.specs.Sending.{drive_sample}
 
 -- ---- one attempt
 
--- an attempt that has begun: its item, its channel and turn, and the first tick of its command
-pub record Begun : Type 0 where
-  pub entry : Entry
-  pub state : RetryState
-  pub start : ℕ
-
--- how a message ended: the outcome, and the statuses and data words that are kept
-pub record Ended : Type 0 where
-  pub outcome : Outcome
-  pub first : Option ℕ
-  pub second : Option ℕ
-  pub words : List ℕ
-
 abbrev pub ended_so : Outcome → Option ℕ → Option ℕ → Option Ended
-ended_so outcome first second = Some record { outcome = outcome; first = first; second = second; words = [] }
+ended_so outcome first second = Some (without_words outcome first second)
 
 -- what is heard of an answer: nothing, and none will count; nothing yet; it runs; or the whole burst
 pub data Reply : Type 0 where
@@ -48,11 +31,6 @@ pub data Reply : Type 0 where
   awaited : Reply
   running : Reply
   whole : Burst → Reply
-
--- the data words that are kept of a good answer, those that the controller asked for: a relay's are another terminal's
-abbrev pub kept_slots : Kind → List (Option Word) → List ℕ
-kept_slots (Relay from from_sub to to_sub count) slots = []
-kept_slots _ slots = filter_map datum_in slots
 
 module _ (k : ℕ) (past : List Sample) where
   -- a message of which this burst ended at tick e waits for an answer, which begins in one of the ticks e to e + 24 (4.3.3.9)
@@ -82,7 +60,7 @@ module _ (k : ℕ) (item : ItemData) (shown : List Pair) (past : List Sample) wh
   -- after a good first answer the message ends, or waits for the second, from the end of the first
   abbrev pub good_ending : ℕ → Burst → Option Shape → Option Ended
   good_ending status burst None =
-      Some record { outcome = Clear; first = Some status; second = None; words = kept_slots item.kind burst.slots }
+      Some record { outcome = Clear; first = Some status; second = None; words = kept_words item.kind burst.slots }
   good_ending status burst (Some shape) = second_ending status (reply k past (end_of burst))
 
   -- an offerer doubts after a bad answer with end x: it keeps control where both channels are quiet in the ticks x to x + 79, and

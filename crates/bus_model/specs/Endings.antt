@@ -1,11 +1,10 @@
 -- How a message ends: the outcome, what is kept, and when (no-response time-out 4.3.3.9, dynamic bus control 4.3.3.5.1.7.1;
 -- abandoned messages and doubt are the project's own). The end of a burst is known k ticks after it.
-use Rattle.std.specs.Prelude.{ℕ, ◌+◌, ◌-◌, Bool, true, false, not, ◌&&◌, ◌==◌, nat_le, if◌then◌else◌, List, [], filter_map, Option, Some, None}
+use Rattle.std.specs.Prelude.{ℕ, ◌+◌, ◌-◌, Bool, true, false, not, ◌&&◌, nat_le, if◌then◌else◌, Option, Some, None}
 use Rattle.bus_base.specs.declared.samples.Part.TheVariants.{First, Second}
-use Rattle.bus_formats.specs.Codes.{dynamic_bus_control}
 use Rattle.bus_formats.specs.Forms.{answers_of}
 use Rattle.bus_formats.specs.Plans.{ItemData}
-use Rattle.bus_formats.specs.Readings.{read_answer, datum_in}
+use Rattle.bus_formats.specs.Readings.{read_answer}
 use Rattle.bus_formats.specs.Times.{no_response}
 use Rattle.bus_formats.specs.declared.form.Shape.{Shape}
 use Rattle.bus_formats.specs.declared.form.Outcome.{Outcome}
@@ -13,54 +12,35 @@ use Rattle.bus_formats.specs.declared.form.Outcome.TheVariants.{Clear, Sent, Pas
 use Rattle.bus_formats.specs.declared.form.Reading.{Reading}
 use Rattle.bus_formats.specs.declared.form.Reading.TheVariants.{Good, Ends}
 use Rattle.bus_formats.specs.declared.plan.Kind.{Kind}
-use Rattle.bus_formats.specs.declared.plan.Kind.TheVariants.{Relay, Mode}
-use Rattle.bus_model.specs.Strikes.{Burst, burst_end, ShownAnswer, is_faded}
+use Rattle.bus_model.specs.Waits.{doubting, taking_over}
+use Rattle.bus_model.specs.Attempts.{Ended, without_words, is_offer, kept_words}
+use Rattle.bus_model.specs.Strikes.{burst_end, ShownAnswer, is_faded}
 
 -- control passes to a station, whose first command starts in this tick
 pub record Passing : Type 0 where
   pub address : ℕ
   pub tick : ℕ
 
--- an ending: the outcome, the statuses and data words that are kept, and its tick; an answer that runs on; and whether
--- control passes
+-- an ending: how the message ended, and in which tick; an answer that runs on; and whether control passes
 pub record Ending : Type 0 where
-  pub outcome : Outcome
-  pub first : Option ℕ
-  pub second : Option ℕ
-  pub words : List ℕ
+  pub ended : Ended
   pub tick : ℕ
-  pub left : Option ShownAnswer
+  pub runs_on : Option ShownAnswer
   pub passes : Option Passing
 
+abbrev pub ends_so : Ended → ℕ → Ending
+ends_so ended tick = record { ended = ended; tick = tick; runs_on = None; passes = None }
+
 abbrev pub ends : Outcome → Option ℕ → Option ℕ → ℕ → Ending
-ends outcome first second tick =
-    record { outcome = outcome; first = first; second = second; words = []; tick = tick; left = None; passes = None }
+ends outcome first second tick = ends_so (without_words outcome first second) tick
 
 abbrev pub abandoned : ℕ → ShownAnswer → Ending
-abandoned tick answer = record (ends Abandoned None None tick) { left = Some answer }
-
--- an offer of control that was answered, though badly, ends when both channels were quiet so long
-abbrev pub doubting : ℕ
-doubting = 80
-
--- a terminal that accepted control sends its first command so long after its answer
-abbrev pub taking_over : ℕ
-taking_over = 40
+abandoned tick answer = record (ends Abandoned None None tick) { runs_on = Some answer }
 
 abbrev pub passed : Outcome → Option ℕ → ℕ → ShownAnswer → Ending
 passed outcome status tick answer = record (ends outcome status None tick) {
   passes = Some record { address = answer.sent.address; tick = burst_end answer.burst + taking_over };
 }
-
--- the mode command that offers control (4.3.3.5.1.7.1)
-abbrev pub is_offer : Kind → Bool
-is_offer (Mode to mode_sub transmit code word) = code == dynamic_bus_control
-is_offer _ = false
-
--- the data words that are kept of an answer: those that the controller asked for
-abbrev pub kept_words : Kind → Burst → List ℕ
-kept_words (Relay from from_sub to to_sub count) burst = []
-kept_words _ burst = filter_map datum_in burst.slots
 
 module _ (k : ℕ) (kind : Kind) where
   -- ---- a relay's second answer
@@ -81,7 +61,8 @@ module _ (k : ℕ) (kind : Kind) where
   abbrev pub good_ending : ℕ → ShownAnswer → Option ShownAnswer → Option Shape → Ending
   good_ending status first second (Some shape) = second_ending status (burst_end first.burst) second
   good_ending status first second None =
-      record (ends Clear (Some status) None (burst_end first.burst + k)) { words = kept_words kind first.burst }
+      ends_so (record (without_words Clear (Some status) None) { words = kept_words kind first.burst.slots })
+      (burst_end first.burst + k)
 
   -- an offer that was answered badly: where the answer accepts, its terminal takes control, and the offerer hears that;
   -- else all is quiet

@@ -1,13 +1,14 @@
 -- Runs that are joined to something outside: blocks that another bus loads, and a second controller that takes control
 -- (data handed on and standby control are the project's own).
-use Rattle.std.specs.Prelude.{ℕ, ◌+◌, ◌-◌, max, Bool, ◌&&◌, ◌==◌, if◌then◌else◌, List, [], ◌∷◌, fold, reverse, find, filter_map, flat_map, Option, Some, None}
+use Rattle.std.specs.Prelude.{ℕ, ◌+◌, ◌-◌, max, ◌==◌, if◌then◌else◌, List, [], ◌∷◌, fold, reverse, find, filter_map, flat_map, Option, Some, None}
 use Rattle.bus_formats.specs.Plans.{StationData, PlanData}
 use Rattle.bus_formats.specs.Times.{dead_ticks}
 use Rattle.bus_formats.specs.declared.log.Delivery.{Delivery}
 use Rattle.bus_model.specs.Memory.{TimedLoad}
 use Rattle.bus_model.specs.Message.{Delivered}
 use Rattle.bus_model.specs.Run.{Run, Next, next_item, first_run, attempts_after, most_attempts, take_control}
-use Rattle.bus_model.specs.Starts.{Entry, agenda, first_origin, planned_start, start_of, settling_quiet}
+use Rattle.bus_model.specs.Starts.{Entry, agenda, first_origin, planned_start, start_of}
+use Rattle.bus_model.specs.Waits.{settling_quiet}
 use Rattle.bus_model.specs.Strikes.{ShownAnswer, burst_end}
 
 -- ---- one station on two buses
@@ -68,7 +69,7 @@ abbrev pub run_out : Option ShownAnswer → Run → Run
 run_out None run = run
 run_out (Some answer) run = record run {
   quiet_from = max run.quiet_from (burst_end answer.burst);
-  old = None;
+  runs_on = None;
   bursts = answer.burst ∷ run.bursts;
 }
 
@@ -86,11 +87,11 @@ module _ (k : ℕ) (plan : PlanData) where
   stop_tick attempt = stop_by (primary_run attempt) (next_item (primary_run attempt))
 
   -- the standby takes control after the silence; the primary, stopped or still holding control, hears nothing
-  abbrev pub taken_over : ℕ → Run → Run
-  taken_over standby run = take_control standby (run.quiet_from + silence plan) run
+  abbrev pub after_takeover : ℕ → Run → Run
+  after_takeover standby run = take_control standby (run.quiet_from + silence plan) run
 
   -- the run of a plan whose primary stops at the attempt with this number
   unfoldable pub standby_run : ℕ → ℕ → Run
   standby_run standby attempt =
       attempts_after k [] plan.faults (most_attempts plan)
-        (taken_over standby (run_out (primary_run attempt).old (primary_run attempt)))
+      (after_takeover standby (run_out (primary_run attempt).runs_on (primary_run attempt)))

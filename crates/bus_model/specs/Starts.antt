@@ -1,13 +1,17 @@
 -- Which attempt is next, when it starts and on which channel (intermessage gap 4.3.3.7, redundant channels 4.6; frames,
 -- retries and the quiet that is waited for are the project's own).
-use Rattle.std.specs.Prelude.{ℕ, zero, suc, ◌+◌, ◌-◌, max, ◌==◌, if◌then◌else◌, List, [], ◌∷◌, ◌++◌, Option, Some, None}
+use Rattle.std.specs.Prelude.{ℕ, zero, suc, ◌+◌, ◌-◌, max, Bool, true, false, ◌==◌, if◌then◌else◌, List, [], ◌∷◌, ◌++◌, drop, Option, Some, None}
+use Rattle.bus_base.specs.Samples.{other_of}
 use Rattle.bus_base.specs.declared.samples.Channel.{Channel}
-use Rattle.bus_formats.specs.Plans.{ItemData, FrameData, StationData}
+use Rattle.bus_formats.specs.Plans.{ItemData, FrameData, StationData, PlanData}
 use Rattle.bus_formats.specs.Times.{dead_ticks, least_quiet}
 use Rattle.bus_formats.specs.declared.form.Outcome.{Outcome}
-use Rattle.bus_formats.specs.declared.form.Outcome.TheVariants.{Clear, Sent, Declined}
+use Rattle.bus_formats.specs.declared.form.Outcome.TheVariants.{Clear, Sent, Declined, Abandoned}
 use Rattle.bus_retry.specs.Retries.{first_state}
 use Rattle.bus_retry.specs.declared.RetryState.{RetryState}
+use Rattle.bus_retry.specs.declared.Choice.{Choice}
+use Rattle.bus_retry.specs.declared.Choice.TheVariants.{Again, Done}
+use Rattle.bus_model.specs.Waits.{settling_quiet}
 
 -- ---- the items of a station, in the order in which they are run
 
@@ -39,6 +43,28 @@ repeated (suc n) frames = frames ++ repeated n frames
 unfoldable pub agenda : StationData → List Entry
 agenda station = entries_from 1 0 (repeated station.repeat station.frames)
 
+-- whether a station has items left
+abbrev pub has_items : List Entry → Bool
+has_items [] = false
+has_items (entry ∷ entries) = true
+
+-- after an attempt another one of its item follows, or the item is done and isn't left any longer
+abbrev pub finishes : Choice → Bool
+finishes Done = true
+finishes (Again state) = false
+
+abbrev pub retry_by : Choice → Option RetryState
+retry_by Done = None
+retry_by (Again state) = Some state
+
+abbrev pub left_after : Choice → List Entry → List Entry
+left_after Done left = drop 1 left
+left_after (Again state) left = left
+
+-- whether a station starts with control
+abbrev pub starts : PlanData → StationData → Bool
+starts plan station = station.terminal.address == plan.start
+
 -- ---- the plan of the frames in ticks
 
 -- the planned start of the frame that so many ticks of frames come before
@@ -50,9 +76,14 @@ pub record Origin : Type 0 where
 abbrev pub planned_start : Origin → Entry → ℕ
 planned_start origin entry = origin.tick + (entry.offset - origin.offset)
 
--- the first frame of the station that starts is planned for tick 8
+-- the first frame of the station that starts is planned for tick 8 (the project's own)
 abbrev pub first_origin : Origin
 first_origin = record { tick = 8; offset = 0 }
+
+-- where control is taken, the tick of the first command is the planned start of the frame of the first item left
+abbrev pub planned_at : ℕ → List Entry → Origin
+planned_at tick [] = record { tick = tick; offset = 0 }
+planned_at tick (entry ∷ later) = record { tick = tick; offset = entry.offset }
 
 -- ---- when the next attempt starts
 
@@ -63,10 +94,6 @@ pub data Opening : Type 0 where
   superseding : (tick : ℕ) (channel : Channel) → Opening
   taking : (tick : ℕ) → Opening
 
--- longer than any answer can still be awaited
-abbrev pub settling_quiet : ℕ
-settling_quiet = 40
-
 -- how long both channels are quiet before the next message: the least gap after one that went well, else until nobody
 -- can still answer
 abbrev pub needed_quiet : Outcome → ℕ
@@ -74,6 +101,15 @@ needed_quiet Clear = least_quiet
 needed_quiet Sent = least_quiet
 needed_quiet Declined = least_quiet
 needed_quiet _ = settling_quiet
+
+-- before the first attempt: the least gap, from tick 0 on
+abbrev pub first_opening : Opening
+first_opening = usual least_quiet 0
+
+-- after an attempt on this channel that ended in this tick: one that was abandoned is superseded at once, on the other channel (4.4.3.2)
+abbrev pub opening_after : Outcome → Channel → ℕ → Opening
+opening_after Abandoned channel tick = superseding (suc tick) (other_of channel)
+opening_after outcome channel tick = usual (needed_quiet outcome) (suc tick)
 
 -- an item's own gap holds at its first attempt alone
 abbrev pub quiet_for : Option RetryState → Entry → ℕ → ℕ

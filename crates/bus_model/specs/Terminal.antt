@@ -1,6 +1,7 @@
 -- A remote terminal over all that it heard: which orders there were, what it keeps, and what it sends (MIL-STD-1553B 4.4.3).
-use Rattle.std.specs.Prelude.{ℕ, ◌+◌, ◌-◌, suc, Bool, true, false, not, ◌&&◌, ◌||◌, ◌==◌, nat_lt, nat_le, if◌then◌else◌, List, [], ◌∷◌, length, Option, Some, None, is_some, is_none}
-use Rattle.bus_base.specs.Samples.{other_of, sample_on, same_channel}
+use Rattle.std.specs.Prelude.{ℕ, ◌+◌, ◌-◌, suc, Bool, true, not, ◌&&◌, ◌||◌, ◌==◌, nat_lt, nat_le, if◌then◌else◌, List, [], ◌∷◌, length, Option, Some, None, is_some}
+use Rattle.std.specs.Option.{option_or}
+use Rattle.bus_base.specs.Samples.{sample_on, same_channel}
 use Rattle.bus_base.specs.declared.samples.Channel.{Channel}
 use Rattle.bus_base.specs.declared.samples.Channel.TheVariants.{A, B}
 use Rattle.bus_base.specs.declared.samples.Sample.{Sample}
@@ -10,46 +11,40 @@ use Rattle.bus_base.specs.declared.samples.Drive.TheVariants.{Silent}
 use Rattle.bus_words.specs.declared.word.Word.{Word}
 use Rattle.bus_line.specs.Past.{Burst, ended_now, slot_now, end_of, rest_of, heard_within, end_since}
 use Rattle.bus_formats.specs.Plans.{TerminalData}
-use Rattle.bus_formats.specs.Times.{dead_ticks}
+use Rattle.bus_model.specs.Waits.{relay_wait}
 use Rattle.bus_model.specs.Memory.{Memory, TimedLoad, with_loads}
-use Rattle.bus_model.specs.Orders.{Duty, owes, promises, Taken, Obeyed, Order, last_order, obey, keep_promise, unkept}
+use Rattle.bus_model.specs.Orders.{Duty, owes, promises, Taken, Obeyed, Order, last_order, due_after, obey, keep_promise, unkept}
 use Rattle.bus_model.specs.Sending.{drive_sample}
-use Rattle.bus_model.specs.Hearing.{Moment, Hearing, heard_on, is_addressed, mark_on, Standing, at_rest, Handled, obeys, takes, runs_out}
+use Rattle.bus_model.specs.Hearing.{Moment, Hearing, heard_on, is_addressed}
+use Rattle.bus_model.specs.Standing.{mark_on, Standing, at_rest, Handled, obeys, settles, runs_out, superseded, outrun, ignored_from, is_owed, promised_on}
+
+-- the first answer of a message is to its command, the second one keeps a promise
+abbrev pub after_order : Standing → Handled → Obeyed → Standing
+after_order s (obeys c end order rest) o =
+    record s { memory = o.memory; duty = o.duty; channel = c; end = end; part = parts.First }
+after_order s (settles end slots rest) o = record s { memory = o.memory; duty = o.duty; end = end; part = parts.Second }
+after_order s runs_out o = record s { memory = o.memory; duty = o.duty }
+
+-- the end of an answer that was due in this tick, where the burst that ended is that answer, and as long as a status word at least
+abbrev pub heard_status : ℕ → Option Burst → Option ℕ
+heard_status due None = None
+heard_status due (Some burst) = if (burst.first == due) && nat_le 40 burst.ticks then Some (end_of burst) else None
 
 module _ (k : ℕ) (terminal : TerminalData) where
-  -- an answer begins after the dead ticks of its delay, counted from the end of the burst that it answers (response time, 4.3.3.8)
-  abbrev pub due_after : ℕ → ℕ
-  due_after end = end + dead_ticks terminal.delay
-
-  -- a mark is from this tick on
-  abbrev pub is_from : ℕ → Option ℕ → Bool
-  is_from tick None = false
-  is_from tick (Some marked) = nat_le tick marked
-
-  -- a newer valid command on the other channel, after the order was handled, takes back what it left (4.4.3.2)
-  abbrev pub superseded : Standing → Bool
-  superseded s = is_from (s.end + k) (mark_on s.addressed (other_of s.channel))
-
   -- an answer is given up: superseded, or the channel wasn't quiet before it was due
   abbrev pub given_up : List Sample → Standing → Bool
-  given_up past s = superseded s || heard_within past s.end (due_after s.end)
+  given_up past s = superseded k s || heard_within past s.end (due_after terminal s.end)
 
   -- it is over: its channel was quiet for k + 1 ticks in a row from its first tick on
   abbrev pub is_over : List Sample → Standing → Bool
-  is_over past s = is_some (end_since k past (due_after s.end))
-
-  -- a channel is ignored from the first tick of the terminal's own transmission there to k + 1 quiet ticks in a row after it:
-  -- whether it is in the tick to come
-  abbrev pub ignored_from : List Sample → Option ℕ → Bool
-  ignored_from past None = false
-  ignored_from past (Some first) = is_none (end_since k past first)
+  is_over past s = is_some (end_since k past (due_after terminal s.end))
 
   -- ---- what it sends
 
   abbrev pub drive_duty : List Sample → Standing → Duty → Drive
   drive_duty past s (owes words acceptance) =
-      if nat_lt (length past) (due_after s.end) || given_up past s || is_over past s then Silent
-      else drive_sample s.channel s.part words (length past - due_after s.end)
+      if nat_lt (length past) (due_after terminal s.end) || given_up past s || is_over past s then Silent
+      else drive_sample s.channel s.part words (length past - due_after terminal s.end)
   drive_duty past s _ = Silent
 
   -- what is driven in the tick to come
@@ -58,33 +53,13 @@ module _ (k : ℕ) (terminal : TerminalData) where
 
   -- ---- orders
 
-  -- an addressed slot on the other channel is newer than the last one on this: it ended later, or in the same tick on A
-  abbrev pub is_newer : Channel → Option ℕ → Option ℕ → Bool
-  is_newer other None this = false
-  is_newer other (Some tick) None = true
-  is_newer other (Some tick) (Some own) = nat_lt own tick || ((own == tick) && same_channel other A)
-
-  abbrev pub outrun : Standing → Channel → Bool
-  outrun s c = is_newer (other_of c) (mark_on s.addressed (other_of c)) (mark_on s.addressed c)
-
-  -- a promise that stands is for the next burst on its channel, if that begins after at most 30 dead ticks
-  abbrev pub is_promise : Duty → Bool
-  is_promise (promises command transmitter) = true
-  is_promise _ = false
-
-  abbrev pub promised_on : Standing → Channel → Bool
-  promised_on s c = is_promise s.duty && same_channel s.channel c && not (superseded s)
-
-  abbrev pub longest_wait : ℕ
-  longest_wait = 30
-
-  -- a whole burst with an addressed slot is a command, unless a newer one came on the other channel (4.4.3.2); another burst may
-  -- be the one that was promised
+  -- a whole burst with an addressed slot is a command, unless a newer one came on the other channel (4.4.3.2); another burst is
+  -- taken for a promise that stands, if it begins after at most 30 dead ticks
   abbrev pub order_by : Standing → Channel → Burst → Option Order → Option Handled
   order_by s c burst (Some last) =
       if outrun s c then None else Some (obeys c (end_of burst) last (rest_of burst))
   order_by s c burst None =
-      if promised_on s c && nat_le burst.first (s.end + longest_wait) then Some (takes (end_of burst) burst.slots (rest_of burst))
+      if promised_on k s c && nat_le burst.first (s.end + relay_wait) then Some (settles (end_of burst) burst.slots (rest_of burst))
       else None
 
   abbrev pub order_of : Standing → Channel → Option Burst → Option Handled
@@ -95,23 +70,19 @@ module _ (k : ℕ) (terminal : TerminalData) where
   abbrev pub order_on : List Moment → Standing → Channel → Option Handled
   order_on [] s c = None
   order_on (now ∷ past) s c =
-      if ignored_from (heard_on c past) (mark_on s.sent c) then None
+      if ignored_from k (heard_on c past) (mark_on s.sent c) then None
       else order_of s c (ended_now k (heard_on c (now ∷ past)))
 
   -- the promise runs out with the 31st quiet tick
   abbrev pub running_out : List Moment → Standing → Option Handled
   running_out past s =
-      if promised_on s s.channel && (length past == suc (s.end + longest_wait))
-          && not (heard_within (heard_on s.channel past) s.end (length past))
+      if promised_on k s s.channel && (length past == suc (s.end + relay_wait))
+      && not (heard_within (heard_on s.channel past) s.end (length past))
       then Some runs_out else None
-
-  abbrev pub first_of : Option Handled → Option Handled → Option Handled
-  first_of (Some order) others = Some order
-  first_of None others = others
 
   -- what is handled in the newest tick, where s stood before it
   abbrev pub order_now : List Moment → Standing → Option Handled
-  order_now past s = first_of (order_on past s A) (first_of (order_on past s B) (running_out past s))
+  order_now past s = option_or (order_on past s A) (option_or (order_on past s B) (running_out past s))
 
   -- ---- what an order leaves
 
@@ -122,26 +93,15 @@ module _ (k : ℕ) (terminal : TerminalData) where
 
   abbrev pub done_by : Standing → Memory → Bool → Handled → Obeyed
   done_by s memory may (obeys c end order rest) = obey terminal memory c order.command order.tail rest may
-  done_by s memory may (takes end slots rest) = kept_by memory s.channel s.duty slots rest
+  done_by s memory may (settles end slots rest) = kept_by memory s.channel s.duty slots rest
   done_by s memory may runs_out = unkept terminal memory s.channel
 
-  -- the first answer of a message is to its command, the second one keeps a promise
-  abbrev pub after_order : Standing → Handled → Obeyed → Standing
-  after_order s (obeys c end order rest) o =
-      record s { memory = o.memory; duty = o.duty; channel = c; end = end; part = parts.First }
-  after_order s (takes end slots rest) o = record s { memory = o.memory; duty = o.duty; end = end; part = parts.Second }
-  after_order s runs_out o = record s { memory = o.memory; duty = o.duty }
-
   -- ---- the marks
-
-  abbrev pub is_owed : Duty → Bool
-  is_owed (owes words acceptance) = true
-  is_owed _ = false
 
   -- an answer begins in the tick to come
   abbrev pub begins : List Moment → Standing → Bool
   begins past s =
-      is_owed s.duty && (length past == due_after s.end) && not (given_up (heard_on s.channel past) s)
+      is_owed s.duty && (length past == due_after terminal s.end) && not (given_up (heard_on s.channel past) s)
 
   abbrev pub sent_on : List Moment → Standing → Channel → Option ℕ
   sent_on past s c = if begins past s && same_channel s.channel c then Some (length past) else mark_on s.sent c
@@ -151,7 +111,7 @@ module _ (k : ℕ) (terminal : TerminalData) where
   addressed_on [] s c = None
   addressed_on (now ∷ past) s c =
       if is_addressed terminal.address (slot_now k (heard_on c (now ∷ past)))
-          && not (ignored_from (heard_on c past) (mark_on s.sent c))
+      && not (ignored_from k (heard_on c past) (mark_on s.sent c))
       then Some (length past) else mark_on s.addressed c
 
   -- s with what the newest tick marks, where before stood before it
@@ -206,14 +166,9 @@ module _ (k : ℕ) (terminal : TerminalData) where
     abbrev pub took_now : Hearing → Option Taken
     took_now hearing = taken_of hearing.memory hearing.ticks
 
-    -- an answer of so many ticks was heard as far as its status
-    abbrev pub heard_status : ℕ → Option Burst → Option ℕ
-    heard_status due None = None
-    heard_status due (Some burst) = if (burst.first == due) && nat_le 40 burst.ticks then Some (end_of burst) else None
-
     abbrev pub accepted_by : List Sample → Sample → Standing → Duty → Option ℕ
     accepted_by past now s (owes words true) =
-        if given_up past s then None else heard_status (due_after s.end) (ended_now k (now ∷ past))
+        if given_up past s then None else heard_status (due_after terminal s.end) (ended_now k (now ∷ past))
     accepted_by past now s _ = None
 
     abbrev pub accepted_on : Moment → List Moment → Standing → Option ℕ

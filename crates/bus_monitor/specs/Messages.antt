@@ -5,7 +5,7 @@ use Rattle.bus_base.specs.declared.samples.Part.TheVariants.{First, Second}
 use Rattle.bus_words.specs.Fields.{address_of, is_transmit, sub_of, field_of, is_broadcast, is_mode, word_count}
 use Rattle.bus_words.specs.declared.word.Word.{Word}
 use Rattle.bus_line.specs.Past.{Burst, end_of, rest_of}
-use Rattle.bus_formats.specs.Forms.{form_of, answers_of}
+use Rattle.bus_formats.specs.Forms.{form_of, is_second_command, answers_of}
 use Rattle.bus_formats.specs.Readings.{command_in, datum_in, data_in, read_answer}
 use Rattle.bus_formats.specs.Times.{no_response}
 use Rattle.bus_formats.specs.declared.form.Outcome.{Outcome}
@@ -42,8 +42,7 @@ transmit_message command _ = None
 abbrev pub relay_with : ℕ → Option ℕ → Option Kind
 relay_with command None = None
 relay_with command (Some second) =
-    if is_transmit second && not (is_mode second) && (field_of second == field_of command)
-        && not (is_broadcast second) && not (address_of second == address_of command)
+    if is_second_command command second && not (address_of second == address_of command)
     then Some (Relay (address_of second) (sub_of second) (address_of command) (sub_of command) (word_count command))
     else None
 

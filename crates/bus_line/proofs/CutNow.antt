@@ -1,0 +1,189 @@
+-- What becomes known with one tick more, case by case, and what it does to the words of the slots of the burst that runs.
+use Rattle.std.proofs.Common.{◌≡◌, ℕ, zero, suc, ◌+◌, ◌-◌, ◌*◌, ◌/◌, ◌%◌, ◌<◌, ◌≤◌, true, false, not, ◌==◌, ◌&&◌, ◌||◌, nat_lt, List, [], ◌∷◌, ◌++◌, length, Some, None, Option, refl, sym, ap, ◌∙◌, subst, arith, inl, inr, ◌⊎◌}
+use Rattle.std.proofs.lemmas.Bool.{cases_lt, cases_eq, cases_Bool}
+use Rattle.std.proofs.lemmas.Bool.Decides.{nat_tests}
+use Rattle.bus_base.specs.Samples.{is_quiet}
+use Rattle.bus_base.specs.declared.samples.Sample.{Sample}
+use Rattle.bus_base.specs.declared.samples.Sample.TheVariants.{Plus, Minus, Quiet}
+use Rattle.bus_words.specs.declared.word.Word.{Word}
+use Rattle.bus_line.specs.declared.cutter.Cut.{Cut}
+use Rattle.bus_line.specs.declared.cutter.Cut.TheVariants as cuts
+use Rattle.bus_line.specs.Past.{Burst, quiet, stopped, runs, first_tick, slot_word, newest_burst, burst_from, ended_now, slot_number, slot_between, slot_now, slot_of, rest_of}
+use Rattle.bus_line.specs.Cutting.{cut_of, cut_now, running_slots, Tells, Collects}
+use Rattle.bus_line.proofs.PastLaws.{quiet-le, quiet-pulse, stopped-more, stopped-pulse, runs-parts, runs-from, rests-parts, rests-from, runs-pulse, rests-more, first_tick-runs, first_tick-begins, first_tick-lt}
+use Rattle.bus_line.proofs.TickLaws.{quiet-sample}
+use Rattle.bus_line.proofs.SlotLaws.{burst-ticks, slots-count, slots-none, slots-same, slots-next, burst_from-more}
+
+-- ---- the cases
+
+pub now-idle : (k : ℕ) (past : List Sample) → runs k past ≡ false → cut_now k (Quiet ∷ past) ≡ cuts.Nothing
+unfolding cut_now
+now-idle k past off =
+    let same : stopped (Quiet ∷ past) ≡ stopped past = stopped-more past in
+    let rests : (stopped past ≡ 0) ⊎ (k < quiet past) = rests-parts k past off in
+    let none : ended_now k (Quiet ∷ past) ≡ None = grind (arith, nat_tests, same, rests) in
+    rw none refl
+
+pub now-pending : (k : ℕ) (past : List Sample) → quiet past < k → cut_now k (Quiet ∷ past) ≡ cuts.Nothing
+unfolding cut_now
+now-pending k past few =
+    let none : ended_now k (Quiet ∷ past) ≡ None = grind (arith, nat_tests, few) in
+    rw none refl
+
+pub ended-more : (k : ℕ) (past : List Sample) → runs k past ≡ true → quiet past ≡ k → ended_now k (Quiet ∷ past) ≡ Some (newest_burst k past)
+ended-more k past on all =
+    let more : stopped (Quiet ∷ past) ≡ stopped past = stopped-more past in
+    let some : 0 < stopped past = (runs-parts k past on).0 in
+    let below : quiet past ≤ length past = quiet-le past in
+    let less : first_tick k past < stopped past = first_tick-lt k past some in
+    let same : newest_burst k (Quiet ∷ past) ≡ newest_burst k past =
+      rw more (burst_from-more Quiet past (first_tick k past) (stopped past - first_tick k past) (omega (arith, less, below))) in
+    let found : ended_now k (Quiet ∷ past) ≡ Some (newest_burst k (Quiet ∷ past)) = grind (arith, nat_tests, all, more, some) in
+    found ∙ ap Some same
+
+pub now-ended : (k : ℕ) (past : List Sample) → runs k past ≡ true → quiet past ≡ k →
+    cut_now k (Quiet ∷ past) ≡ cuts.Ended ((stopped past - first_tick k past) / 40) ((stopped past - first_tick k past) % 40)
+unfolding cut_now
+now-ended k past on all =
+    rw (ended-more k past on all)
+      (rw (slots-count past (first_tick k past) (stopped past - first_tick k past), burst-ticks past (first_tick k past) (stopped past - first_tick k past)) refl)
+
+pub now-begins : (k : ℕ) (x : Sample) (past : List Sample) → is_quiet x ≡ false → runs k past ≡ false → cut_now k (x ∷ past) ≡ cuts.Nothing
+unfolding cut_now
+now-begins k x past pulse off =
+    let none : quiet (x ∷ past) ≡ 0 = quiet-pulse x past pulse in
+    let not_ended : ended_now k (x ∷ past) ≡ None = grind (arith, nat_tests, none) in
+    let no_slot : slot_number k (x ∷ past) ≡ None = rw (pulse, off) refl in
+    rw (not_ended, no_slot) refl
+
+-- what a tick that isn't quiet tells, by the ticks of the burst before and with it
+pub now-pulse : (k : ℕ) (x : Sample) (past : List Sample) (number : Option ℕ) → is_quiet x ≡ false → runs k past ≡ true →
+    slot_between (stopped past - first_tick k past) (suc (length past) - first_tick k past) ≡ number →
+    cut_now k (x ∷ past) ≡ cut_of (x ∷ past) (first_tick k past) None number
+unfolding cut_now
+now-pulse k x past number pulse on is =
+    let none : quiet (x ∷ past) ≡ 0 = quiet-pulse x past pulse in
+    let not_ended : ended_now k (x ∷ past) ≡ None = grind (arith, nat_tests, none) in
+    let first : first_tick k (x ∷ past) ≡ first_tick k past = first_tick-runs k x past on in
+    let slot : slot_number k (x ∷ past) ≡ number = rw (pulse, on) is in
+    rw (not_ended, slot, first) refl
+
+-- ---- what a cut tells
+
+tells-of : (k : ℕ) (past : List Sample) (ended : Option Burst) (number : Option ℕ) → ended_now k past ≡ ended → slot_number k past ≡ number →
+    ((burst : Burst) → ended ≡ Some burst → (number ≡ None) × (burst ≡ newest_burst k past)) → Tells k past (cut_of past (first_tick k past) ended number)
+tells-of k past None None e n alone = (e, ap (slot_of past (first_tick k past)) n)
+tells-of k past None (Some i) e n alone = (e, ap (slot_of past (first_tick k past)) n)
+tells-of k past (Some burst) number e n alone =
+    let both : (number ≡ None) × (burst ≡ newest_burst k past) = alone burst refl in
+    (e ∙ ap Some both.1, ap (slot_of past (first_tick k past)) (n ∙ both.0), ap (λ (b : Burst). length b.slots) (sym both.1), ap rest_of (sym both.1))
+
+no-slot : (k : ℕ) (past : List Sample) → quiet past ≡ suc k → slot_number k past ≡ None
+no-slot k [] q = refl
+no-slot k (Plus ∷ past) q = absurd (omega (arith, q))
+no-slot k (Minus ∷ past) q = absurd (omega (arith, q))
+no-slot k (Quiet ∷ past) q = refl
+
+tells-quiet : (k : ℕ) (past : List Sample) (burst : Burst) → ended_now k past ≡ Some burst → (slot_number k past ≡ None) × (burst ≡ newest_burst k past)
+tells-quiet k past burst e = elim (cases_Bool ((quiet past == suc k) && nat_lt 0 (stopped past))) [
+  | inr fails ↦ (let bad : ended_now k past ≡ None = rw fails refl in let f : None ≡ Some burst = sym bad ∙ e in cc)
+  | inl holds ↦ (
+      let q : quiet past ≡ suc k = grind (arith, nat_tests, holds) in
+      let is : ended_now k past ≡ Some (newest_burst k past) = rw holds refl in
+      (no-slot k past q, let f : Some burst ≡ Some (newest_burst k past) = sym e ∙ is in cc))
+]
+
+-- a cut tells what ended
+pub cut-tells : (k : ℕ) (past : List Sample) → Tells k past (cut_now k past)
+unfolding cut_now
+cut-tells k past = tells-of k past (ended_now k past) (slot_number k past) refl refl (tells-quiet k past)
+
+-- ---- the words of the slots of the burst that runs
+
+pub running-off : (k : ℕ) (past : List Sample) → runs k past ≡ false → running_slots k past ≡ []
+unfolding running_slots
+running-off k past off = rw off refl
+
+pub running-on : (k : ℕ) (past : List Sample) → runs k past ≡ true → running_slots k past ≡ (newest_burst k past).slots
+unfolding running_slots
+running-on k past on = rw on refl
+
+-- the words so far, in the past with a tick more
+slots-before : (k : ℕ) (x : Sample) (past : List Sample) → runs k past ≡ true →
+    running_slots k past ≡ (burst_from (x ∷ past) (first_tick k past) (stopped past - first_tick k past)).slots
+slots-before k x past on =
+    let below : quiet past ≤ length past = quiet-le past in
+    let less : first_tick k past < stopped past = first_tick-lt k past (runs-parts k past on).0 in
+    running-on k past on ∙ ap (λ (b : Burst). b.slots)
+      (sym (burst_from-more x past (first_tick k past) (stopped past - first_tick k past) (omega (arith, less, below))))
+
+slots-with : (k : ℕ) (x : Sample) (past : List Sample) → is_quiet x ≡ false → runs k past ≡ true →
+    running_slots k (x ∷ past) ≡ (burst_from (x ∷ past) (first_tick k past) (suc (length past) - first_tick k past)).slots
+slots-with k x past pulse on =
+    let first : first_tick k (x ∷ past) ≡ first_tick k past = first_tick-runs k x past on in
+    let now : stopped (x ∷ past) ≡ suc (length past) = stopped-pulse x past pulse in
+    running-on k (x ∷ past) (runs-pulse k x past pulse) ∙ (rw (first, now) refl)
+
+collects-quiet : (k : ℕ) (past : List Sample) → Collects (cut_now k (Quiet ∷ past)) (running_slots k past) (running_slots k (Quiet ∷ past))
+collects-quiet k past = elim (cases_Bool (runs k past)) [
+  | inr off ↦ rw (now-idle k past off) (running-off k (Quiet ∷ past) (rests-more k past off) ∙ sym (running-off k past off))
+  | inl on ↦ elim (cases_eq (quiet past) k) [
+    | inl all ↦ rw (now-ended k past on all) (
+        sym (ap length (running-on k past on) ∙ slots-count past (first_tick k past) (stopped past - first_tick k past)),
+        running-off k (Quiet ∷ past) (rests-from k (Quiet ∷ past) (inr (omega (arith, all)))),
+      )
+    | inr few ↦ (
+        let less : quiet past < k = (let most = (runs-parts k past on).1 in omega (arith, few, most)) in
+        let more : stopped (Quiet ∷ past) ≡ stopped past = stopped-more past in
+        let still : runs k (Quiet ∷ past) ≡ true = runs-from k (Quiet ∷ past) (let some = (runs-parts k past on).0 in omega (arith, more, some)) (omega (arith, less)) in
+        rw (now-pending k past less) (running-on k (Quiet ∷ past) still ∙ (rw more (sym (slots-before k Quiet past on)))))
+  ]
+]
+
+-- so many ticks make no slot whole, or one
+collects-pulse : (k : ℕ) (x : Sample) (past : List Sample) → k ≤ 39 → is_quiet x ≡ false → runs k past ≡ true →
+    Collects (cut_now k (x ∷ past)) (running_slots k past) (running_slots k (x ∷ past))
+collects-pulse k x past small pulse on =
+    let below : quiet past ≤ length past = quiet-le past in
+    let few : quiet past ≤ k = (runs-parts k past on).1 in
+    let less : first_tick k past < stopped past = first_tick-lt k past (runs-parts k past on).0 in
+    let before : ℕ = stopped past - first_tick k past in
+    let now : ℕ = suc (length past) - first_tick k past in
+    let old = slots-before k x past on in
+    let new = slots-with k x past pulse on in
+    elim (cases_eq ((suc (length past) - first_tick k past) / 40) ((stopped past - first_tick k past) / 40)) [
+      | inl same ↦ (
+          let number : slot_between (stopped past - first_tick k past) (suc (length past) - first_tick k past) ≡ None = grind (arith, nat_tests, same) in
+          rw (now-pulse k x past None pulse on number)
+            (new ∙ slots-same (x ∷ past) (first_tick k past) (stopped past - first_tick k past) (suc (length past) - first_tick k past) same ∙ sym old))
+      | inr other ↦ (
+          let next : (suc (length past) - first_tick k past) / 40 ≡ suc ((stopped past - first_tick k past) / 40) = omega (arith, other, small, few, less, below) in
+          let last : (suc (length past) - first_tick k past) / 40 - 1 ≡ (stopped past - first_tick k past) / 40 = omega (arith, next) in
+          let number : slot_between (stopped past - first_tick k past) (suc (length past) - first_tick k past) ≡ Some ((stopped past - first_tick k past) / 40) =
+            grind (arith, nat_tests, next, last) in
+          rw (now-pulse k x past (Some ((stopped past - first_tick k past) / 40)) pulse on number) (
+            sym (ap length old ∙ slots-count (x ∷ past) (first_tick k past) (stopped past - first_tick k past)),
+            new ∙ slots-next (x ∷ past) (first_tick k past) (stopped past - first_tick k past) (suc (length past) - first_tick k past) next
+              ∙ ap (λ ws. ws ++ slot_word (x ∷ past) (first_tick k past) ((stopped past - first_tick k past) / 40) ∷ []) (sym old),
+          ))
+    ]
+
+collects-begins : (k : ℕ) (x : Sample) (past : List Sample) → is_quiet x ≡ false → runs k past ≡ false →
+    Collects (cut_now k (x ∷ past)) (running_slots k past) (running_slots k (x ∷ past))
+collects-begins k x past pulse off =
+    let first : first_tick k (x ∷ past) ≡ length past = first_tick-begins k x past off pulse in
+    let now : stopped (x ∷ past) ≡ suc (length past) = stopped-pulse x past pulse in
+    rw (now-begins k x past pulse off)
+      (running-on k (x ∷ past) (runs-pulse k x past pulse)
+        ∙ slots-none (x ∷ past) (first_tick k (x ∷ past)) (stopped (x ∷ past) - first_tick k (x ∷ past)) (omega (arith, first, now))
+        ∙ sym (running-off k past off))
+
+-- each sample's cut adds to the words collected, at every lag below a slot
+pub cut-collects : (k : ℕ) (x : Sample) (past : List Sample) → k ≤ 39 → Collects (cut_now k (x ∷ past)) (running_slots k past) (running_slots k (x ∷ past))
+cut-collects k x past small = elim (cases_Bool (is_quiet x)) [
+  | inl q ↦ rw (quiet-sample x q) (collects-quiet k past)
+  | inr pulse ↦ elim (cases_Bool (runs k past)) [
+    | inl on ↦ collects-pulse k x past small pulse on
+    | inr off ↦ collects-begins k x past pulse off
+  ]
+]

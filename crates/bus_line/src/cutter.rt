@@ -1,0 +1,125 @@
+ghost use Rattle.std.specs.Prelude.{◌≡◌, ℕ, ◌<◌, ◌^◌, false, List, ◌∷◌, length};
+ghost use Rattle.bus_base.specs.declared.samples.Sample.{Sample};
+ghost use Rattle.bus_base.specs.Samples.{is_quiet};
+ghost use Rattle.bus_line.specs.Past.{quiet_ticks};
+ghost use Rattle.bus_line.specs.Cutting.{Follows, CutterStands, begun, cut_now};
+
+use crate::spelling::read_slot;
+use bus_base::Sample;
+use bus_words::Word;
+
+/// The ticks from a burst's end to the tick in which the end is known: a burst bridges up to three quiet ticks, the fourth in a row ends it.
+pub const LAG: u8 = 3;
+
+/// What became known of a channel with one sample. A slot is forty ticks of a burst from its first tick on, the length of one word.
+#[derive(Clone, Copy, Debug, PartialEq, Eq)]
+pub enum Cut {
+    /// No slot of a burst and no burst ended.
+    Nothing,
+    /// The slot with this index in its burst, counted from 0, ended: in its last tick or, where that was quiet, in the first later tick
+    /// of its burst that wasn't. The word is the one that its samples spell, if any.
+    Slot { index: u64, word: Option<Word> },
+    /// The end of the burst that ran became known: its last tick is `LAG` + 1 ticks before this one. It had so many whole slots, and
+    /// after them so many ticks, 0 to 39.
+    Ended { slots: u64, rest: u8 },
+}
+
+/// Cuts what one channel shows, sample by sample, into bursts and slots.
+#[derive(Clone, Copy, Debug)]
+pub struct Cutter {
+    // the samples of the slot that isn't whole yet, in front
+    samples: [Sample; 40],
+    // the whole slots of the burst that runs, and the ticks after them to its last tick that wasn't quiet
+    slots: u64,
+    rest: u8,
+    // the quiet ticks after that tick; `LAG` + 1 where no burst runs
+    quiet: u8,
+}
+
+impl Cutter {
+    /// A cutter that heard nothing, or any number of quiet ticks.
+    pub fn new() -> Cutter
+        ensures stands { (n : ℕ) → CutterStands LAG result (quiet_ticks n) }
+    {
+        Cutter {
+            samples: [Sample::Quiet; 40],
+            slots: 0,
+            rest: 0,
+            quiet: LAG + 1,
+        }
+    }
+
+    /// Hears the channel's sample of one tick, and tells what became known with it: for every past for which the cutter stands, what is
+    /// found in that past with the sample. It stands for that past then.
+    #[tactic(auto, unfolding(crate::specs::Cutting::CutterStands))]
+    pub fn hear(&mut self, sample: Sample) -> Cut
+        requires { (past : List Sample) × CutterStands LAG self.old past × (length past < 2 ^ 60) }
+        ensures cut { (past : List Sample) → CutterStands LAG self.old past → result ≡ cut_now LAG (sample ∷ past) }
+        ensures stands { (past : List Sample) → CutterStands LAG self.old past → CutterStands LAG self.new (sample ∷ past) }
+    {
+        match sample {
+            Sample::Quiet => self.hear_quiet(),
+            Sample::Plus | Sample::Minus => self.hear_pulse(sample),
+        }
+    }
+
+    fn hear_quiet(&mut self) -> Cut
+        requires { (past : List Sample) × Follows LAG self.old past × (length past < 2 ^ 60) }
+        ensures cut { (past : List Sample) → Follows LAG self.old past → result ≡ cut_now LAG (Sample.Quiet ∷ past) }
+        ensures stands { (past : List Sample) → Follows LAG self.old past → Follows LAG self.new (Sample.Quiet ∷ past) }
+    {
+        if self.quiet > LAG {
+            return Cut::Nothing;
+        }
+        let place = self.rest + self.quiet;
+        self.samples[usize::from(place % 40)] = Sample::Quiet;
+        self.quiet += 1;
+        if self.quiet <= LAG {
+            return Cut::Nothing;
+        }
+        Cut::Ended {
+            slots: self.slots,
+            rest: self.rest,
+        }
+    }
+
+    // A sample that isn't quiet.
+    fn hear_pulse(&mut self, sample: Sample) -> Cut
+        requires past { (past : List Sample) × Follows LAG self.old past × (length past < 2 ^ 60) }
+        requires pulse { is_quiet sample ≡ false }
+        ensures cut { (past : List Sample) → Follows LAG self.old past → result ≡ cut_now LAG (sample ∷ past) }
+        ensures stands { (past : List Sample) → Follows LAG self.old past → Follows LAG self.new (sample ∷ past) }
+    {
+        if self.quiet > LAG {
+            self.begin(sample);
+            return Cut::Nothing;
+        }
+        let index = self.slots;
+        let place = self.rest + self.quiet;
+        self.quiet = 0;
+        self.samples[usize::from(place % 40)] = sample;
+        if place < 39 {
+            self.rest = place + 1;
+            return Cut::Nothing;
+        }
+        self.slots += 1;
+        self.rest = place - 39;
+        let word = if place == 39 {
+            read_slot(&self.samples)
+        } else {
+            None
+        };
+        Cut::Slot { index, word }
+    }
+
+    // The first sample of a burst.
+    fn begin(&mut self, sample: Sample)
+        requires { length self.old.samples ≡ 40 }
+        ensures { self.new ≡ begun self.old.samples sample }
+    {
+        self.samples[0] = sample;
+        self.slots = 0;
+        self.rest = 1;
+        self.quiet = 0;
+    }
+}

@@ -1,0 +1,20 @@
+//! How the run of a plan goes on: one attempt after the other. Laws alone, each the contract of an empty function.
+
+ghost use Rattle.std.specs.Prelude.{◌≡◌, ℕ, suc, Bool, List, ◌∷◌, length, Some, None};
+ghost use Rattle.bus_formats.specs.declared.fault.Fault.{Fault};
+ghost use Rattle.bus_formats.specs.declared.log.Attempt.{Attempt};
+ghost use Rattle.bus_model.specs.Memory.{TimedLoad};
+ghost use Rattle.bus_model.specs.Run.{Run, Next, next_item, attempt, attempts_after};
+
+/// While the station that holds control has an item left, an attempt adds one record before those of the attempts so far, which stay: so the
+/// number of an attempt, by which faults name it, is its place in the log.
+pub fn an_attempt_adds_its_record()
+    ensures { (k : ℕ) (loads : List TimedLoad) (faults : List Fault) (run : Run) (next : Next) → next_item run ≡ Some next →
+        (added : Attempt) × ((attempt k loads faults run).attempts ≡ added ∷ run.attempts) }
+{}
+
+/// A run whose holder of control has no item left stays as it is, however many attempts more are asked for.
+pub fn a_finished_run_stays()
+    ensures { (k : ℕ) (loads : List TimedLoad) (faults : List Fault) (run : Run) (n : ℕ) → next_item run ≡ None →
+        attempts_after k loads faults n run ≡ run }
+{}
