@@ -5,4 +5,3 @@ pub mod Accepted
 pub mod Logs
 pub mod Readings
 pub mod Times
-pub mod Accepted
