@@ -67,3 +67,7 @@ lines_front f a b c xs i d piece within is h k =
     let next : GrowsByFront b c (f (get_or xs i d)) = subst (λ text. GrowsByFront b c text) is k in
     subst (λ text. GrowsByFront a c text) (sym (lines_split f xs i d within))
       (front_then a b c (flat_map f (take i xs)) (f (get_or xs i d)) (flat_map f (drop (suc i) xs)) h next)
+
+-- a text was added, and a front of another
+pub front_after : (a b c : Option (List ℕ)) (xs ys : List ℕ) → Appends a b xs → GrowsByFront b c ys → GrowsByFront a c (xs ++ ys)
+front_after a b c xs ys h k = subst (λ zs. GrowsByFront a c (xs ++ zs)) (append-nil ys) (front_then a b c xs ys [] h k)
