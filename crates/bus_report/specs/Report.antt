@@ -1,6 +1,6 @@
 -- The text of a report: attempts, words, bursts, terminals, end.
-use Rattle.std.specs.Prelude.{ℕ, ◌+◌, ◌/◌, ◌%◌, Bool, true, false, ◌&&◌, ◌==◌, nat_lt, if◌then◌else◌, List, [], ◌∷◌, ◌++◌, map, flat_map, filter_map, filter, codes, decimal, Option, Some, None, is_some}
-use Rattle.std.specs.List.{join_with_byte, list_any}
+use Rattle.std.specs.Prelude.{ℕ, ◌+◌, ◌/◌, ◌%◌, Bool, true, false, ◌&&◌, ◌==◌, nat_lt, if◌then◌else◌, List, [], ◌∷◌, ◌++◌, flat_map, codes, decimal, Option, Some, None, is_some}
+use Rattle.std.specs.List.{list_any}
 use Rattle.bus_formats.specs.Logs.{LogData}
 use Rattle.bus_formats.specs.Plans.{PlanData}
 use Rattle.bus_formats.specs.declared.log.Attempt.{Attempt}
@@ -8,14 +8,14 @@ use Rattle.bus_formats.specs.declared.log.BlockEnd.{BlockEnd}
 use Rattle.bus_formats.specs.declared.log.Heard.{Heard}
 use Rattle.bus_formats.specs.declared.log.HeardBurst.{HeardBurst}
 use Rattle.bus_formats.specs.declared.log.TerminalEnd.{TerminalEnd}
-use Rattle.bus_text.specs.Texts.{hex_word, spaced, number, word, words, line, channel_text, outcome_text, commands_of, status_text, words_text, word_line}
+use Rattle.bus_text.specs.Texts.{spaced, number, word, words, line, channel_text, outcome_text, commands_text, status_text, words_text, word_line}
 
 -- ---- attempts
 
 abbrev pub attempt_line : ℕ → Attempt → List ℕ
 attempt_line n a = line (codes "attempt" ++ number n ++ codes " station" ++ number a.station ++ codes " frame" ++ number a.frame
     ++ codes " item" ++ number a.item ++ codes " try" ++ number a.turn ++ channel_text a.channel ++ number a.start.0
-    ++ spaced (join_with_byte 43 (map hex_word (commands_of a.kind))) ++ outcome_text a.outcome
+    ++ commands_text a.kind ++ outcome_text a.outcome
     ++ status_text a.first ++ status_text a.second ++ words_text a.words)
 
 -- attempts, the first of which has this number
@@ -43,8 +43,9 @@ terminal_line t = line (codes "terminal" ++ number t.address ++ codes " status" 
 abbrev pub block_line : BlockEnd → List ℕ
 block_line b = line (codes "block" ++ number b.address ++ number b.sub ++ words b.words)
 
-abbrev pub blocks_at : List BlockEnd → ℕ → List BlockEnd
-blocks_at blocks address = filter (λ b. b.address == address) blocks
+-- the line of a block, where it is one of this terminal's
+abbrev pub block_of : ℕ → BlockEnd → List ℕ
+block_of address b = if b.address == address then block_line b else []
 
 -- whether the station with this address names a subsystem
 abbrev pub has_subsystem : PlanData → ℕ → Bool
@@ -53,21 +54,31 @@ has_subsystem plan address = list_any (λ s. (s.terminal.address == address) && 
 abbrev pub subsystem_line : ℕ → List ℕ → List ℕ
 subsystem_line address text = line (codes "subsystem" ++ number address ++ spaced text)
 
--- a terminal, its blocks, and what its subsystem says; the texts are those of the subsystems of this terminal and the
--- later ones
+-- a terminal and its blocks
+abbrev pub terminal_text : List BlockEnd → TerminalEnd → List ℕ
+terminal_text blocks t = terminal_line t ++ flat_map (block_of t.address) blocks
+
+-- terminals and their blocks, after each what its subsystem says; the texts are those of the subsystems of these terminals, in order
 abbrev pub terminal_lines : List BlockEnd → PlanData → List TerminalEnd → List (List ℕ) → List ℕ
 terminal_lines blocks plan [] texts = []
-terminal_lines blocks plan (t ∷ ts) [] =
-    terminal_line t ++ flat_map block_line (blocks_at blocks t.address) ++ terminal_lines blocks plan ts []
+terminal_lines blocks plan (t ∷ ts) [] = terminal_text blocks t ++ terminal_lines blocks plan ts []
 terminal_lines blocks plan (t ∷ ts) (text ∷ texts) =
-    terminal_line t ++ flat_map block_line (blocks_at blocks t.address)
+    terminal_text blocks t
     ++ (if has_subsystem plan t.address then subsystem_line t.address text ++ terminal_lines blocks plan ts texts
         else terminal_lines blocks plan ts (text ∷ texts))
 
+-- terminals without subsystems
+abbrev pub terminals_text : List BlockEnd → List TerminalEnd → List ℕ
+terminals_text blocks terminals = flat_map (terminal_text blocks) terminals
+
 -- ---- the report
 
+-- the ticks of the run, and in how many of them two stations or more drove one channel
+abbrev pub end_text : ℕ → ℕ → List ℕ
+end_text ticks clashes = line (codes "end" ++ number ticks ++ codes " clashes" ++ number clashes)
+
 abbrev pub end_line : LogData → List ℕ
-end_line log = line (codes "end" ++ number log.end.0 ++ codes " clashes" ++ number log.clashes)
+end_line log = end_text log.end.0 log.clashes
 
 -- the report of a log; the texts are what the subsystems that the plan names say, in order of address
 unfoldable pub report_text : LogData → PlanData → List (List ℕ) → List ℕ

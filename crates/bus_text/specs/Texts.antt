@@ -1,5 +1,6 @@
 -- The pieces of which printed lines are made: numbers, words, channels, outcomes, and the line of a word heard.
-use Rattle.std.specs.Prelude.{ℕ, ◌+◌, ◌/◌, ◌%◌, nat_lt, if◌then◌else◌, List, [], ◌∷◌, ◌++◌, flat_map, filter_map, codes, decimal, Option, Some, None}
+use Rattle.std.specs.Prelude.{ℕ, ◌+◌, ◌/◌, ◌%◌, nat_lt, if◌then◌else◌, List, [], ◌∷◌, ◌++◌, map, flat_map, filter_map, codes, decimal, Option, Some, None}
+use Rattle.std.specs.List.{join_with_byte}
 use Rattle.bus_base.specs.declared.samples.Channel.{Channel}
 use Rattle.bus_base.specs.declared.samples.Channel.TheVariants.{A, B}
 use Rattle.bus_base.specs.declared.samples.Part.{Part}
@@ -66,6 +67,10 @@ outcome_text Yielded = codes " yielded"
 -- the command words of a message
 abbrev pub commands_of : Kind → List ℕ
 commands_of kind = filter_map (λ w. command_with w.sync w.bits) (command_words kind)
+
+-- the command words of a message after a space, a relay's two joined by a plus sign
+abbrev pub commands_text : Kind → List ℕ
+commands_text kind = spaced (join_with_byte 43 (map hex_word (commands_of kind)))
 
 abbrev pub status_text : Option ℕ → List ℕ
 status_text None = []

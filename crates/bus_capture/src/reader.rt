@@ -1,0 +1,219 @@
+//! The reader of capture texts, one byte at a time.
+ghost use Rattle.std.specs.Prelude.{◌≡◌, ◌<◌, ℕ, List, [], ◌∷◌};
+ghost use Rattle.bus_capture.specs.Readings.{
+  reached,
+  sample_of,
+  first_byte,
+  second_byte,
+  in_header,
+  in_ticks,
+  one_byte,
+  end_in,
+  end_after,
+  answer_at,
+  answer_now,
+};
+ghost use Rattle.bus_capture.specs.Reader.{ReaderStands, after_byte};
+
+use crate::refusal::CaptureRefusal;
+use bus_base::{Pair, Sample};
+
+// The first line of a capture text.
+const HEADER: [u8; 15] = *b"1553 capture 1\n";
+
+// The most bytes that a capture text has: 2^33.
+const LIMIT: u64 = 8_589_934_592;
+
+/// Where a text stands after a byte: within the header or between ticks, after a tick's sample of A, or refused.
+#[derive(Clone, Copy, Debug, PartialEq, Eq)]
+enum Place {
+    Between,
+    Half(Sample),
+    Refused(CaptureRefusal),
+}
+
+/// What one byte makes of a text: where it stands then, and the tick that the byte completes.
+#[derive(Clone, Copy, Debug, PartialEq, Eq)]
+struct Step {
+    pub place: Place,
+    pub tick: Option<Pair>,
+}
+
+/// Reads a capture text byte by byte. It keeps counts and one sample, and takes no memory.
+#[derive(Drop)]
+pub struct CaptureReader {
+    place: Place,
+    at: u64,
+    ticks: u64,
+}
+
+impl CaptureReader {
+    /// A reader that was given no byte.
+    pub fn new() -> CaptureReader
+        ensures { ReaderStands result [] }
+    {
+        CaptureReader {
+            place: Place::Between,
+            at: 0,
+            ticks: 0,
+        }
+    }
+
+    /// Takes the next byte of the text. The tick that it completes, if it completes one; or the first refusal of the text,
+    /// with its offset, and after a refusal the same at every further byte.
+    pub fn push(&mut self, byte: u8) -> Result<Option<Pair>, CaptureRefusal>
+        ensures stands { (bytes : List ℕ) → ReaderStands self.old bytes → ReaderStands self.new (byte ∷ bytes) }
+        ensures answer { (bytes : List ℕ) → ReaderStands self.old bytes → result ≡ answer_now (byte ∷ bytes) }
+    {
+        self.take(byte)
+    }
+
+    /// What the text comes to where it ends here: the number of its ticks, or its refusal. A text that ends within its
+    /// header or after half a tick is refused with its length, and that changes nothing: a further byte goes on from here.
+    pub fn end(&self) -> Result<u64, CaptureRefusal>
+        ensures { (bytes : List ℕ) → ReaderStands self.now bytes → result ≡ end_after bytes }
+    {
+        self.ended()
+    }
+
+    fn take(&mut self, byte: u8) -> Result<Option<Pair>, CaptureRefusal>
+        ensures state { self.new ≡ after_byte self.old byte }
+        ensures answer { let step = one_byte self.old.at byte self.old.place in result ≡ answer_at step.place step.tick }
+    {
+        let step = read_byte(self.at, byte, self.place);
+        self.place = step.place;
+        self.at = self.at.saturating_add(1);
+        self.ticks = self.ticks.saturating_add(u64::from(step.tick.is_some()));
+        match step.place {
+            Place::Refused(refusal) => Err(refusal),
+            Place::Between | Place::Half(_) => Ok(step.tick),
+        }
+    }
+
+    fn ended(&self) -> Result<u64, CaptureRefusal>
+        ensures { result ≡ end_in self.now.at self.now.ticks self.now.place }
+    {
+        match self.place {
+            Place::Refused(refusal) => Err(refusal),
+            Place::Half(_) => Err(CaptureRefusal::HalfTick(self.at)),
+            Place::Between if self.at < 15 => Err(CaptureRefusal::Header(self.at)),
+            Place::Between => Ok(self.ticks),
+        }
+    }
+}
+
+fn sample(byte: u8) -> Option<Sample>
+    ensures { result ≡ sample_of byte }
+{
+    match byte {
+        b'+' => Some(Sample::Plus),
+        b'-' => Some(Sample::Minus),
+        b'.' => Some(Sample::Quiet),
+        _ => None,
+    }
+}
+
+fn read_byte(at: u64, byte: u8, place: Place) -> Step
+    ensures { result ≡ one_byte at byte place }
+{
+    match place {
+        Place::Refused(_) => reached(place),
+        _ if at < 15 => header_step(at, byte),
+        _ if at >= LIMIT => reached(Place::Refused(CaptureRefusal::Long(at))),
+        Place::Between => first_step(at, byte),
+        Place::Half(a) => second_step(at, byte, a),
+    }
+}
+
+fn reached(place: Place) -> Step
+    ensures { result ≡ reached place }
+{
+    Step { place, tick: None }
+}
+
+fn header_step(at: u64, byte: u8) -> Step
+    requires { at < 15 }
+    ensures { result ≡ in_header at byte }
+{
+    if HEADER[at as usize] == byte {
+        reached(Place::Between)
+    } else {
+        reached(Place::Refused(CaptureRefusal::Header(at)))
+    }
+}
+
+fn first_step(at: u64, byte: u8) -> Step
+    ensures { result ≡ first_byte at byte (sample_of byte) }
+{
+    match sample(byte) {
+        Some(a) => reached(Place::Half(a)),
+        None if byte == b'\n' => reached(Place::Between),
+        None => reached(Place::Refused(CaptureRefusal::Byte(at))),
+    }
+}
+
+fn second_step(at: u64, byte: u8, a: Sample) -> Step
+    ensures { result ≡ second_byte at a (sample_of byte) }
+{
+    match sample(byte) {
+        Some(b) => Step {
+            place: Place::Between,
+            tick: Some(Pair { a, b }),
+        },
+        None => reached(Place::Refused(CaptureRefusal::Byte(at))),
+    }
+}
+
+#[cfg(test)]
+mod tests {
+    use super::*;
+
+    fn ended(text: &[u8]) -> Result<u64, CaptureRefusal> {
+        let mut reader = CaptureReader::new();
+        for byte in text {
+            let _ = reader.push(*byte);
+        }
+        reader.end()
+    }
+
+    fn is_header_refused_at(at: usize) -> bool {
+        let mut reader = CaptureReader::new();
+        for (place, byte) in HEADER.iter().enumerate() {
+            let _ = reader.push(if place == at { *byte ^ 1 } else { *byte });
+        }
+        reader.end() == Err(CaptureRefusal::Header(at as u64))
+    }
+
+    // the offsets are those of the worked texts: a header is 15 bytes
+    #[test]
+    fn refusals_have_their_offset(rt: HostRuntime) {
+        let header = CaptureRefusal::Header;
+        let byte = CaptureRefusal::Byte;
+        assert_eq!(rt; ended(b""), Err(header(0)));
+        assert_eq!(rt; ended(b"1553 capture 1"), Err(header(14)));
+        assert_eq!(rt; ended(b"1553 capture 2\n..\n"), Err(header(13)));
+        assert_eq!(rt; ended(b"1553 capture 1\n"), Ok(0));
+        assert_eq!(rt; ended(b"1553 capture 1\n+\n"), Err(byte(16)));
+        assert_eq!(rt; ended(b"1553 capture 1\n\n\n+-\n..x+"), Err(byte(22)));
+        assert_eq!(rt;
+            ended(b"1553 capture 1\n..+"),
+            Err(CaptureRefusal::HalfTick(18))
+        );
+        assert_eq!(rt; ended(b"1553 capture 1\n..+-\n\n-+"), Ok(3));
+    }
+
+    #[test]
+    fn each_byte_of_the_header_counts(rt: HostRuntime) {
+        for at in 0..15 {
+            assert!(rt; is_header_refused_at(at), "at {at}");
+        }
+    }
+
+    #[test]
+    fn a_refusal_stays(rt: HostRuntime) {
+        let mut reader = CaptureReader::new();
+        assert_eq!(rt; reader.push(b'2'), Err(CaptureRefusal::Header(0)));
+        assert_eq!(rt; reader.push(b'1'), Err(CaptureRefusal::Header(0)));
+        assert_eq!(rt; reader.end(), Err(CaptureRefusal::Header(0)));
+    }
+}

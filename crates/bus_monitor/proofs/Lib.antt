@@ -1,0 +1,5 @@
+pub mod PastLaws
+pub mod ChannelLaws
+pub mod MessageLaws
+pub mod LineLaws
+pub mod WordLaws

@@ -1,0 +1,62 @@
+//! The valid words of both channels, tick by tick.
+ghost use Rattle.std.specs.Prelude.{◌≡◌, ◌<◌, ◌^◌, ℕ, List, [], ◌∷◌, length};
+ghost use Rattle.bus_base.specs.declared.samples.Channel.TheVariants as channels;
+ghost use Rattle.bus_base.specs.declared.samples.Pair.{Pair};
+ghost use Rattle.bus_line.specs.declared.cutter.TheConstants.{LAG};
+ghost use Rattle.bus_monitor.specs.Progress.{heard_now};
+ghost use Rattle.bus_monitor.specs.Listers.{WordListerStands, heard_in};
+
+use bus_base::{Channel, Pair, Tick};
+use bus_formats::Heard;
+use bus_line::{Cut, Cutter};
+
+/// Lists the valid words of both channels. It keeps the samples of the two slots that run, and takes no memory.
+#[derive(Drop)]
+pub struct WordLister {
+    a: Cutter,
+    b: Cutter,
+    ticks: u64,
+}
+
+impl WordLister {
+    /// A lister that heard nothing.
+    pub fn new() -> WordLister
+        ensures { WordListerStands result [] }
+    {
+        WordLister {
+            a: Cutter::new(),
+            b: Cutter::new(),
+            ticks: 0,
+        }
+    }
+
+    /// Hears what both channels show in one tick. The valid words that end in this tick, the one on channel A first, each with
+    /// its first tick (MIL-STD-1553B 4.4.1.1).
+    pub fn hear(&mut self, heard: Pair) -> [Option<Heard>; 2]
+        requires { (past : List Pair) × WordListerStands self.old past × (length past < 2 ^ 60) }
+        ensures words { (past : List Pair) → WordListerStands self.old past →
+            result ≡ heard_now LAG channels.A (heard ∷ past) ∷ heard_now LAG channels.B (heard ∷ past) ∷ [] }
+        ensures stands { (past : List Pair) → WordListerStands self.old past → WordListerStands self.new (heard ∷ past) }
+    {
+        let a = word_in(self.a.hear(heard.a), Channel::A, self.ticks);
+        let b = word_in(self.b.hear(heard.b), Channel::B, self.ticks);
+        self.ticks += 1;
+        [a, b]
+    }
+}
+
+// The valid word that ends in this tick, which is the last of its forty.
+fn word_in(cut: Cut, channel: Channel, tick: u64) -> Option<Heard>
+    ensures { result ≡ heard_in cut channel tick }
+{
+    match cut {
+        Cut::Slot {
+            word: Some(word), ..
+        } => Some(Heard {
+            tick: Tick(tick.saturating_sub(39)),
+            channel,
+            word,
+        }),
+        _ => None,
+    }
+}

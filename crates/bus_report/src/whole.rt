@@ -1,0 +1,111 @@
+//! The whole report, one write a line.
+
+ghost use Rattle.std.specs.Prelude.{◌≡◌, ℕ, ◌+◌, ◌<◌, ◌≤◌, ◌^◌, ◌++◌, List, [], length, flat_map, get_or, slice_get, Some};
+ghost use Rattle.bus_formats.specs.Accepted.{HasKindRanges};
+ghost use Rattle.bus_formats.specs.Plans.{PlanData};
+ghost use Rattle.bus_formats.specs.declared.log.Attempt.{Attempt};
+ghost use Rattle.bus_outside.specs.Causes.{HasCause, WriteAdds};
+ghost use Rattle.bus_text.specs.Texts.{word_line};
+ghost use Rattle.bus_report.specs.Report as spec;
+ghost use Rattle.bus_report.specs.Report.{report_text};
+
+use crate::lines::{attempt_line, block_line, burst_line, end_line, terminal_line};
+use bus_formats::{Attempt, BlockEnd, Heard, HeardBurst, RunLog, TerminalEnd};
+use bus_outside::{Failed, Sink};
+use bus_text::Line;
+
+/// Writes the report of a log, one write a line.
+///
+/// At `Failed`, the first write that failed, a front of the report was written.
+/// Asks that the numbers of each attempt's message are in their ranges.
+pub fn report<K: Sink>(log: &RunLog, sink: &mut K) -> Result<(), Failed>
+    requires { (a : Attempt) (i : ℕ) → slice_get log.now.attempts i ≡ Some a → HasKindRanges a.kind }
+    ensures bytes { (plan : PlanData) → WriteAdds (K.held sink.old) (K.held sink.new) result (report_text log.now plan []) }
+    ensures cause { HasCause (K.faults sink.old) (K.faults sink.new) result }
+{
+    write_attempts(log.attempts.as_slice(), sink)?;
+    write_words(log.words.as_slice(), sink)?;
+    write_bursts(log.bursts.as_slice(), sink)?;
+    write_terminals(log.terminals.as_slice(), log.blocks.as_slice(), sink)?;
+    sink.write(end_line(log.end.0, log.clashes).as_bytes())
+}
+
+fn write_attempts<K: Sink>(attempts: &[Attempt], sink: &mut K) -> Result<(), Failed>
+    requires { (a : Attempt) (i : ℕ) → slice_get attempts.now i ≡ Some a → HasKindRanges a.kind }
+    ensures bytes { WriteAdds (K.held sink.old) (K.held sink.new) result (spec.attempt_lines 1 attempts.now) }
+    ensures cause { HasCause (K.faults sink.old) (K.faults sink.new) result }
+{
+    for (i, attempt) in attempts.iter().enumerate() {
+        sink.write(attempt_line(i as u64 + 1, attempt).as_bytes())?;
+    }
+    Ok(())
+}
+
+fn write_words<K: Sink>(words: &[Heard], sink: &mut K) -> Result<(), Failed>
+    ensures bytes { WriteAdds (K.held sink.old) (K.held sink.new) result (flat_map word_line words.now) }
+    ensures cause { HasCause (K.faults sink.old) (K.faults sink.new) result }
+{
+    for heard in words {
+        sink.write(Line::of_word(*heard).as_bytes())?;
+    }
+    Ok(())
+}
+
+fn write_bursts<K: Sink>(bursts: &[HeardBurst], sink: &mut K) -> Result<(), Failed>
+    ensures bytes { WriteAdds (K.held sink.old) (K.held sink.new) result (flat_map spec.burst_line bursts.now) }
+    ensures cause { HasCause (K.faults sink.old) (K.faults sink.new) result }
+{
+    for burst in bursts {
+        sink.write(burst_line(*burst).as_bytes())?;
+    }
+    Ok(())
+}
+
+// Each terminal, and its blocks after it.
+fn write_terminals<K: Sink>(
+    terminals: &[TerminalEnd],
+    blocks: &[BlockEnd],
+    sink: &mut K,
+) -> Result<(), Failed>
+    ensures bytes { WriteAdds (K.held sink.old) (K.held sink.new) result (spec.terminals_text blocks.now terminals.now) }
+    ensures cause { HasCause (K.faults sink.old) (K.faults sink.new) result }
+{
+    for terminal in terminals {
+        write_terminal(terminal, blocks, sink)?;
+    }
+    Ok(())
+}
+
+fn write_terminal<K: Sink>(
+    terminal: &TerminalEnd,
+    blocks: &[BlockEnd],
+    sink: &mut K,
+) -> Result<(), Failed>
+    ensures bytes { WriteAdds (K.held sink.old) (K.held sink.new) result (spec.terminal_text blocks.now terminal.now) }
+    ensures cause { HasCause (K.faults sink.old) (K.faults sink.new) result }
+{
+    sink.write(terminal_line(terminal).as_bytes())?;
+    write_blocks(terminal.address, blocks, sink)
+}
+
+// The blocks of the terminal with this address.
+fn write_blocks<K: Sink>(address: u8, blocks: &[BlockEnd], sink: &mut K) -> Result<(), Failed>
+    ensures bytes { WriteAdds (K.held sink.old) (K.held sink.new) result (flat_map (spec.block_of address) blocks.now) }
+    ensures cause { HasCause (K.faults sink.old) (K.faults sink.new) result }
+{
+    for block in blocks {
+        write_block(address, block, sink)?;
+    }
+    Ok(())
+}
+
+fn write_block<K: Sink>(address: u8, block: &BlockEnd, sink: &mut K) -> Result<(), Failed>
+    ensures bytes { WriteAdds (K.held sink.old) (K.held sink.new) result (spec.block_of address block.now) }
+    ensures cause { HasCause (K.faults sink.old) (K.faults sink.new) result }
+{
+    if block.address == address {
+        sink.write(block_line(block).as_bytes())
+    } else {
+        Ok(())
+    }
+}
