@@ -1,4 +1,6 @@
 //! An item that is tried again twice, first on the same channel and then on the other.
+ghost use Rattle.std.specs.Prelude.{◌≡◌};
+
 use crate::*;
 use arrayvec::ArrayVec;
 use bus_base::Part;
