@@ -4,7 +4,7 @@ ghost use Rattle.std.specs.Prelude.{◌≡◌, ◌↔◌, ℕ, ◌+◌, ◌<◌,
 ghost use Rattle.bus_base.specs.declared.samples.Sample.{Sample};
 ghost use Rattle.bus_base.specs.declared.samples.Pair.{Pair};
 ghost use Rattle.bus_line.specs.declared.cutter.Cutter.{Cutter};
-ghost use Rattle.bus_line.specs.Bursts.{EndsAgree, SlotsAgree, IsEndSince, IsBurst, IsLongest, IsHeardAt, IsQuietAt, IsFirstHeard, ValidAgree};
+ghost use Rattle.bus_line.specs.Bursts.{EndsAgree, SlotsAgree, IsEndSince, IsBurst, IsLongest, IsHeardAt, IsQuietAt, IsFirstHeard, ValidAgree, BurstsAgree};
 ghost use Rattle.bus_line.specs.Past.{Burst, Slot, quiet_ticks, quiet, runs, first_tick, ended_now, slot_now, end_of, heard_within, first_heard, end_since};
 ghost use Rattle.bus_line.specs.Cutting.{CutterStands, cut_now, running_slots, Tells, Collects, Closes, Fills};
 
@@ -57,8 +57,14 @@ pub fn ends_since_a_tick_are_found()
 {}
 
 /// The list of valid words has the words that whole slots of bursts spell and no others, in the order of their last ticks, A before B.
+/// At every lag below a slot's forty ticks.
 pub fn valid_words_are_found()
     ensures { (k : ℕ) (past : List Pair) → k ≤ 39 → ValidAgree k past }
+{}
+
+/// The list of ended bursts has the bursts whose ends are known and no others, in the order of their ends, A before B. At every lag.
+pub fn ended_bursts_are_found()
+    ensures { (k : ℕ) (past : List Pair) → BurstsAgree k past }
 {}
 
 /// A cutter for a past whose last k + 1 ticks were quiet, or that was quiet altogether, stands for it with any number of further quiet ticks.
