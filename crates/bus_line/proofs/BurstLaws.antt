@@ -6,7 +6,7 @@ use Rattle.bus_base.specs.declared.samples.Sample.{Sample}
 use Rattle.bus_base.specs.declared.samples.Sample.TheVariants.{Plus, Minus, Quiet}
 use Rattle.bus_line.specs.Past.{quiet, stopped, runs, first_tick}
 use Rattle.bus_line.specs.Bursts.{IsQuietAt, IsHeardAt, IsBurst}
-use Rattle.bus_line.proofs.PastLaws.{quiet-le, stopped-more, stopped-pulse, runs-parts, rests-parts, first_tick-runs, first_tick-begins, first_tick-lt}
+use Rattle.bus_line.proofs.PastLaws.{quiet-le, runs-from, stopped-more, stopped-pulse, runs-parts, rests-parts, first_tick-runs, first_tick-begins, first_tick-lt}
 use Rattle.bus_line.proofs.TickLaws.{at-past, at-now, at-more, at-later, at-quiet, heard-sample, quiet-sample, quiet-since, stopped-is}
 
 -- ---- bursts of one past
@@ -202,3 +202,17 @@ newest-is k past p n b end =
 pub burst-stopped : (k : ℕ) (past : List Sample) (p n : ℕ) → IsBurst k past p n → ((t : ℕ) → p + n ≤ t → t < length past → IsQuietAt past t) → stopped past ≡ p + n
 burst-stopped k past p n b after =
     stopped-is past (p + n) (p + n - 1) (omega (arith, b.stretch.some)) (b.stretch.ends (p + n - 1) (omega (arith, b.stretch.some))) after
+
+-- a burst runs where the newest one's end isn't known
+pub runs-burst : (k : ℕ) (past : List Sample) → runs k past ≡ true → (p n : ℕ) × IsBurst k past p n × (length past ≤ p + n + k)
+runs-burst k past on =
+    let parts = runs-parts k past on in
+    let below : quiet past ≤ length past = quiet-le past in
+    let less : first_tick k past < stopped past = first_tick-lt k past parts.0 in
+    (first_tick k past, stopped past - first_tick k past, newest-burst k past parts.0, omega (arith, parts.1, below, less))
+
+pub burst-runs : (k : ℕ) (past : List Sample) (p n : ℕ) → IsBurst k past p n → length past ≤ p + n + k → runs k past ≡ true
+burst-runs k past p n b near =
+    let stop : stopped past ≡ p + n = burst-stopped k past p n b (λ t late within. b.after t late (omega (arith, within, near))) in
+    let below : quiet past ≤ length past = quiet-le past in
+    runs-from k past (omega (arith, stop, b.stretch.some)) (omega (arith, stop, near, below))

@@ -1,11 +1,11 @@
 //! Laws of bursts and slots, each the contract of a function without a body.
 
-ghost use Rattle.std.specs.Prelude.{◌≡◌, ◌↔◌, ℕ, ◌+◌, ◌<◌, ◌≤◌, ◌⊎◌, true, List, ◌∷◌, ◌++◌, length, Some, None};
+ghost use Rattle.std.specs.Prelude.{◌≡◌, ◌↔◌, ℕ, ◌+◌, ◌-◌, ◌<◌, ◌≤◌, ◌⊎◌, true, List, ◌∷◌, ◌++◌, length, Some, None};
 ghost use Rattle.bus_base.specs.declared.samples.Sample.{Sample};
 ghost use Rattle.bus_base.specs.declared.samples.Pair.{Pair};
 ghost use Rattle.bus_line.specs.declared.cutter.Cutter.{Cutter};
 ghost use Rattle.bus_line.specs.Bursts.{EndsAgree, SlotsAgree, IsEndSince, IsBurst, IsLongest, IsHeardAt, IsQuietAt, IsFirstHeard, ValidAgree, BurstsAgree};
-ghost use Rattle.bus_line.specs.Past.{Burst, Slot, quiet_ticks, quiet, runs, first_tick, ended_now, slot_now, end_of, heard_within, first_heard, end_since};
+ghost use Rattle.bus_line.specs.Past.{Burst, Slot, quiet_ticks, quiet, stopped, runs, first_tick, ended_now, slot_now, end_of, heard_within, first_heard, end_since};
 ghost use Rattle.bus_line.specs.Cutting.{CutterStands, cut_now, running_slots, Tells, Collects, Closes, Fills};
 
 /// A burst is a longest stretch of ticks that begins and ends with one that isn't quiet and holds no k + 1 quiet ones in a row, and no tick
@@ -14,6 +14,12 @@ pub fn a_burst_is_a_longest_stretch()
     ensures longest { (k : ℕ) (past : List Sample) (p n : ℕ) → IsBurst k past p n ↔ IsLongest k past p n }
     ensures alone { (k : ℕ) (past : List Sample) (p n q m t : ℕ) → IsBurst k past p n → IsBurst k past q m →
         p ≤ t → t < p + n → q ≤ t → t < q + m → (p ≡ q) × (n ≡ m) }
+{}
+
+/// The newest burst is found, up to its last tick that wasn't quiet, and a burst runs exactly where the end of one isn't known. At every lag.
+pub fn the_newest_burst_is_found()
+    ensures newest { (k : ℕ) (past : List Sample) → 0 < stopped past → IsBurst k past (first_tick k past) (stopped past - first_tick k past) }
+    ensures runs { (k : ℕ) (past : List Sample) → (runs k past ≡ true) ↔ ((p n : ℕ) × IsBurst k past p n × (length past ≤ p + n + k)) }
 {}
 
 /// The slot that is looked up in a past is the slot of a burst by tick numbers that ended in its newest tick, and no other, at every lag
