@@ -1,11 +1,11 @@
 //! Laws of bursts and slots, each the contract of a function without a body.
 
-ghost use Rattle.std.specs.Prelude.{◌≡◌, ◌↔◌, ℕ, ◌+◌, ◌-◌, ◌<◌, ◌≤◌, ◌⊎◌, true, List, ◌∷◌, ◌++◌, length, Some, None};
+ghost use Rattle.std.specs.Prelude.{◌≡◌, ◌↔◌, ℕ, suc, ◌+◌, ◌-◌, ◌<◌, ◌≤◌, ◌⊎◌, true, false, List, ◌∷◌, ◌++◌, length, Some, None};
 ghost use Rattle.bus_base.specs.declared.samples.Sample.{Sample};
 ghost use Rattle.bus_base.specs.declared.samples.Pair.{Pair};
 ghost use Rattle.bus_line.specs.declared.cutter.Cutter.{Cutter};
 ghost use Rattle.bus_line.specs.Bursts.{EndsAgree, SlotsAgree, IsEndSince, IsBurst, IsLongest, IsHeardAt, IsQuietAt, IsFirstHeard, ValidAgree, BurstsAgree};
-ghost use Rattle.bus_line.specs.Past.{Burst, Slot, quiet_ticks, quiet, stopped, runs, first_tick, ended_now, slot_now, end_of, heard_within, first_heard, end_since};
+ghost use Rattle.bus_line.specs.Past.{Burst, Slot, InLeg, burst_from, quiet_ticks, quiet, stopped, runs, first_tick, ended_now, slot_now, end_of, heard_within, first_heard, end_since};
 ghost use Rattle.bus_line.specs.Cutting.{CutterStands, cut_now, running_slots, Tells, Collects, Closes, Fills};
 
 /// A burst is a longest stretch of ticks that begins and ends with one that isn't quiet and holds no k + 1 quiet ones in a row, and no tick
@@ -31,6 +31,16 @@ pub fn slots_are_found()
 /// The end that is looked up in a past is the end of a burst by tick numbers that became known in its newest tick, and no other, at every lag.
 pub fn ends_are_found()
     ensures { (k : ℕ) (past : List Sample) → EndsAgree k past }
+{}
+
+/// A leg is the ticks of one burst after a past in which none runs. With k + 1 quiet ticks after it, it is the burst that ended, and its
+/// slots are those of the leg alone, whatever came before and after. At every lag.
+pub fn a_leg_is_the_burst_that_ended()
+    ensures ended { (k : ℕ) (x : Sample) (leg past : List Sample) → runs k past ≡ false → InLeg k (x ∷ leg) → quiet (x ∷ leg) ≡ 0 →
+        let whole : List Sample = quiet_ticks (suc k) ++ ((x ∷ leg) ++ past) in
+        ended_now k whole ≡ Some (burst_from whole (length past) (suc (length leg))) }
+    ensures slots { (later leg past : List Sample) (n : ℕ) → n ≤ length leg →
+        (burst_from (later ++ (leg ++ past)) (length past) n).slots ≡ (burst_from leg 0 n).slots }
 {}
 
 /// A cut tells what ended: the burst or the slot that is looked up.
