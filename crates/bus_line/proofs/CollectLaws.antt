@@ -1,17 +1,14 @@
 -- The words of the slots of the burst that runs, with one tick more; what an end and a slot tell of them.
-use Rattle.std.proofs.Common.{◌≡◌, ℕ, zero, suc, ◌+◌, ◌-◌, ◌*◌, ◌/◌, ◌%◌, ◌<◌, ◌≤◌, true, false, not, ◌==◌, ◌&&◌, ◌||◌, nat_lt, List, [], ◌∷◌, ◌++◌, length, Some, None, Option, IsSome, refl, sym, ap, ◌∙◌, subst, arith, inl, inr, ◌⊎◌}
+use Rattle.std.proofs.Common.{◌≡◌, ℕ, suc, ◌+◌, ◌-◌, ◌*◌, ◌/◌, ◌<◌, ◌≤◌, true, false, not, ◌==◌, ◌&&◌, ◌||◌, nat_lt, List, [], ◌∷◌, ◌++◌, length, Some, None, Option, refl, sym, ap, ◌∙◌, subst, arith, inl, inr}
 use Rattle.std.proofs.lemmas.Bool.{cases_lt, cases_eq, cases_Bool, or_parts, not-false}
 use Rattle.std.proofs.lemmas.Bool.Decides.{nat_tests}
 use Rattle.bus_base.specs.Samples.{is_quiet}
 use Rattle.bus_base.specs.declared.samples.Sample.{Sample}
 use Rattle.bus_base.specs.declared.samples.Sample.TheVariants.{Plus, Minus, Quiet}
-use Rattle.bus_words.specs.declared.word.Word.{Word}
-use Rattle.bus_line.specs.declared.cutter.Cut.{Cut}
-use Rattle.bus_line.specs.declared.cutter.Cut.TheVariants as cuts
-use Rattle.bus_line.specs.Past.{Burst, Slot, quiet, stopped, runs, first_tick, slot_word, newest_burst, burst_from, ended_now, slot_number, slot_between, slot_now, slot_of, rest_of}
+use Rattle.bus_line.specs.Past.{Burst, Slot, quiet, stopped, runs, first_tick, slot_word, newest_burst, burst_from, ended_now, slot_number, slot_between, slot_now, slot_of}
 use Rattle.bus_line.specs.Bursts.{IsSlotNow}
-use Rattle.bus_line.specs.Cutting.{cut_of, cut_now, running_slots, Collects, Closes, Fills}
-use Rattle.bus_line.proofs.PastLaws.{quiet-le, quiet-pulse, stopped-more, stopped-pulse, runs-parts, runs-from, rests-parts, rests-from, runs-pulse, rests-more, first_tick-runs, first_tick-begins, first_tick-lt}
+use Rattle.bus_line.specs.Cutting.{cut_now, running_slots, Collects, Closes, Fills}
+use Rattle.bus_line.proofs.PastLaws.{quiet-le, stopped-more, stopped-pulse, runs-parts, runs-from, rests-from, runs-pulse, rests-more, first_tick-runs, first_tick-begins, first_tick-lt}
 use Rattle.bus_line.proofs.TickLaws.{quiet-sample}
 use Rattle.bus_line.proofs.SlotLaws.{burst-first, burst-ticks, slots-count, slots-none, slots-same, slots-next, burst_from-more, word-before}
 use Rattle.bus_line.proofs.CutNow.{now-idle, now-pending, now-ended, now-begins, now-pulse, ended-more, ended-none}

@@ -1,12 +1,10 @@
 -- Where what began at a tick has its end, and what was heard between two ticks, by tick numbers. For every lag.
-use Rattle.std.proofs.Common.{◌≡◌, ◌≢◌, ℕ, zero, suc, min, ◌+◌, ◌-◌, ◌<◌, ◌≤◌, true, false, not, ◌&&◌, ◌||◌, nat_lt, nat_le, List, [], ◌∷◌, ◌++◌, length, Some, None, Option, refl, sym, ap, ◌∙◌, arith, inl, inr, ◌⊎◌}
-use Rattle.std.proofs.lemmas.Bool.{cases_lt, cases_eq, cases_order, cases_Bool, lt-ltb, le-ltb}
+use Rattle.std.proofs.Common.{◌≡◌, ℕ, suc, min, ◌+◌, ◌-◌, ◌<◌, ◌≤◌, true, false, nat_lt, nat_le, List, [], ◌∷◌, ◌++◌, length, Some, None, Option, refl, sym, ap, ◌∙◌, arith, inl, inr, ◌⊎◌}
+use Rattle.std.proofs.lemmas.Bool.{cases_lt, cases_order, lt-ltb, le-ltb}
 use Rattle.std.proofs.lemmas.Bool.Decides.{nat_tests}
-use Rattle.bus_base.specs.Samples.{is_quiet}
 use Rattle.bus_base.specs.declared.samples.Sample.{Sample}
-use Rattle.bus_base.specs.declared.samples.Sample.TheVariants.{Quiet}
-use Rattle.bus_line.specs.Past.{Burst, quiet, stopped, runs, first_tick, newest_burst, ended_now, end_of, end_since, end_or_now}
-use Rattle.bus_line.specs.Bursts.{IsQuietAt, IsHeardAt, IsBurst, IsEndedNow, IsEndSince}
+use Rattle.bus_line.specs.Past.{Burst, quiet, stopped, runs, first_tick, ended_now, end_of, end_since, end_or_now}
+use Rattle.bus_line.specs.Bursts.{IsHeardAt, IsBurst, IsEndedNow, IsEndSince}
 use Rattle.bus_line.proofs.PastLaws.{quiet-le, runs-parts, first_tick-lt}
 use Rattle.bus_line.proofs.TickLaws.{at-more, quiet-since, heard-last}
 use Rattle.bus_line.proofs.BurstLaws.{newest-burst}
@@ -144,8 +142,8 @@ end_since-found k past a e is = elim (cases-option (end_since k past a)) [
 -- in any k + 1 ticks from one of a burst's ticks on, one isn't quiet
 burst-heard : (k : ℕ) (past : List Sample) (p n u : ℕ) → IsBurst k past p n → p ≤ u → u < p + n → (t : ℕ) × (u ≤ t) × (t ≤ u + k) × IsHeardAt past t
 burst-heard k past p n u b low high = elim (cases_lt (u + k) (p + n)) [
-  | inl inner ↦ b.bridged u low inner
-  | inr edge ↦ (p + n - 1, omega (arith, high), omega (arith, edge), b.ends (p + n - 1) (omega (arith, high)))
+  | inl inner ↦ b.stretch.bridged u low inner
+  | inr edge ↦ (p + n - 1, omega (arith, high), omega (arith, edge), b.stretch.ends (p + n - 1) (omega (arith, high)))
 ]
 
 -- what began with a burst has its end with the burst's, once that is known

@@ -51,6 +51,9 @@ pub record Fills (k : ℕ) (x : Sample) (past : List Sample) (slot : Slot) : Typ
   pub late : length (x ∷ past) ≤ slot.first + 40 + k
   pub word : IsSome slot.word → slot.first + 40 ≡ length (x ∷ past)
 
+-- ---- For which pasts a cutter stands. Nothing below has to be believed: a new cutter stands for quiet ticks, each sample keeps it, and
+-- what `hear` answers is right for every past for which it stood.
+
 -- the samples of the newest n ticks, in their order
 abbrev pub newest_samples : ℕ → List Sample → List Sample
 newest_samples n past = reverse (take n past)

@@ -1,4 +1,4 @@
-use Rattle.std.proofs.Common.{◌∷◌, [], refl, arith}
+use Rattle.std.proofs.Common.{[], refl}
 use Rattle.bus_line.proofs.cutter.tests.cuts.Goals as goal
 
 pub loop-tick-init : goal.loop-tick-init
