@@ -15,7 +15,8 @@ use Rattle.bus_model.specs.Orders.{Order, last_order}
 use Rattle.bus_model.specs.Hearing.{Moment, heard_on}
 use Rattle.bus_model.specs.Standing.{Standing, mark_on, ignored_from, outrun, promised_on, Handled, obeys, settles, runs_out}
 use Rattle.bus_model.specs.Terminal.{standing, order_by, order_of, order_on}
-use Rattle.bus_model.proofs.Slots.{slot-later, bare-none, quiet-le}
+use Rattle.bus_line.proofs.PastLaws.{quiet-le}
+use Rattle.bus_model.proofs.Slots.{slot-later, bare-none}
 use Rattle.bus_model.proofs.Marked.{IsMarked, heard-long}
 use Rattle.bus_model.proofs.Newest.{marked-always}
 
