@@ -10,7 +10,8 @@ use Rattle.bus_model.specs.Memory.{Memory, TimedLoad}
 use Rattle.bus_model.specs.Hearing.{Moment}
 use Rattle.bus_model.specs.Standing.{Standing, mark_on, Handled, obeys, settles, runs_out, is_newer, superseded, outrun, is_promise, promised_on}
 use Rattle.bus_model.specs.Terminal.{standing, order_on}
-use Rattle.bus_model.proofs.OneOrder.{Seen, seen, cases-option}
+use Rattle.bus_model.proofs.Options.{cases-option}
+use Rattle.bus_model.proofs.OneOrder.{Seen, seen}
 use Rattle.bus_model.proofs.Promises.{Newest, Stands, stands-always}
 
 -- of two marks one is newer
