@@ -139,3 +139,21 @@ seen k t loads memory now past c h small given =
                 absurd (none-some h (sym none ∙ (sym by ∙ given)))
           ]
     ]
+
+-- an order comes with the k + 1st quiet tick after its burst
+pub ends-now : (k : ℕ) (t : TerminalData) (s : Standing) (c : Channel) (now : Moment) (past : List Moment) (h : Handled) →
+    order_on k t (now ∷ past) s c ≡ Some h → (quiet (heard_on c (now ∷ past)) ≡ suc k) × (0 < stopped (heard_on c (now ∷ past)))
+ends-now k t s c now past h given =
+    elim (cases_Bool (ignored_from k (heard_on c past) (mark_on s.sent c))) [
+      | inl ignored ↦
+          let none : order_on k t (now ∷ past) s c ≡ None = rw ignored refl in
+          absurd (none-some h (sym none ∙ given))
+      | inr free ↦
+          let by : order_on k t (now ∷ past) s c ≡ order_of k t s c (ended_now k (heard_on c (now ∷ past))) = rw free refl in
+          elim (cases_Bool ((quiet (heard_on c (now ∷ past)) == suc k) && nat_lt 0 (stopped (heard_on c (now ∷ past))))) [
+            | inl ends ↦ ends-so k (heard_on c (now ∷ past)) ends
+            | inr goes ↦
+                let none : order_of k t s c (ended_now k (heard_on c (now ∷ past))) ≡ None = rw goes refl in
+                absurd (none-some h (sym none ∙ (sym by ∙ given)))
+          ]
+    ]
