@@ -8,7 +8,7 @@ use Rattle.bus_model.specs.Starts.{Entry}
 use Rattle.bus_model.specs.Attempts.{Begun}
 use Rattle.bus_model.specs.Message.{Present, address_of_station}
 use Rattle.bus_model.specs.Run.{is_at, with_station, after_attempt}
-use Rattle.bus_model.proofs.OneOrder.{some-none, some-same}
+use Rattle.std.proofs.lemmas.Option.{none-some, same_Some}
 use Rattle.bus_model.proofs.PassingOn.{AreSame}
 
 -- the attempts that items can have: one, and one for each entry of the retry list
@@ -33,7 +33,7 @@ left-same (a ∷ before) (b ∷ later) h =
 -- the station that is found stands there with the same items after a message
 pub found-same : (address : ℕ) (before later : List Present) (s : Present) → AreSame before later → find (is_at address) before ≡ Some s →
     (t : Present) × (find (is_at address) later ≡ Some t) × (t.left ≡ s.left)
-found-same address [] later s h found = absurd (some-none s found)
+found-same address [] later s h found = absurd (none-some s found)
 found-same address (a ∷ before) [] s h found = absurd h
 found-same address (a ∷ before) (b ∷ later) s h found =
     let at : is_at address b ≡ is_at address a = ap (λ n. n == address) h.1 in
@@ -42,7 +42,7 @@ found-same address (a ∷ before) (b ∷ later) s h found =
           let first : find (is_at address) (a ∷ before) ≡ Some a = rw here refl in
           let there : is_at address b ≡ true = at ∙ here in
           let second : find (is_at address) (b ∷ later) ≡ Some b = rw there refl in
-          (b, second, h.0 ∙ ap (λ s. s.left) (some-same a s (sym first ∙ found)))
+          (b, second, h.0 ∙ ap (λ s. s.left) (same_Some a s (sym first ∙ found)))
       | inr other ↦
           let first : find (is_at address) (a ∷ before) ≡ find (is_at address) before = rw other refl in
           let there : is_at address b ≡ false = at ∙ other in
@@ -73,14 +73,14 @@ module _ (address : ℕ) (change : Present → Present) (keeps : (s : Present) �
 
   pub found-kept : ((s : Present) → address_of_station (change s) ≡ address_of_station s) → (stations : List Present) (s : Present) →
       find (is_at address) stations ≡ Some s → find (is_at address) (with_station address change stations) ≡ Some (change s)
-  found-kept fixed [] s found = absurd (some-none s found)
+  found-kept fixed [] s found = absurd (none-some s found)
   found-kept fixed (a ∷ stations) s found = elim (cases_Bool (is_at address a)) [
     | inl here ↦
         let first : find (is_at address) (a ∷ stations) ≡ Some a = rw here refl in
         let there : is_at address (if is_at address a then change a else a) ≡ true = moves-not fixed a (is_at address a) ∙ here in
         let changed : (if is_at address a then change a else a) ≡ change a = rw here refl in
         let second : find (is_at address) (with_station address change (a ∷ stations)) ≡ Some (if is_at address a then change a else a) = rw there refl in
-        second ∙ ap Some (changed ∙ ap change (some-same a s (sym first ∙ found)))
+        second ∙ ap Some (changed ∙ ap change (same_Some a s (sym first ∙ found)))
     | inr other ↦
         let first : find (is_at address) (a ∷ stations) ≡ find (is_at address) stations = rw other refl in
         let there : is_at address (if is_at address a then change a else a) ≡ false = moves-not fixed a (is_at address a) ∙ other in
@@ -105,11 +105,11 @@ module _ (address : ℕ) (begun : Begun) (outcome : Outcome) where
   pub done-less : (stations : List Present) (s : Present) (entry : Entry) (later : List Entry) → find (is_at address) stations ≡ Some s →
       s.left ≡ entry ∷ later →
       attempts-left (with_station address (after_attempt begun outcome Done) stations) + suc (length entry.item.retry) ≤ attempts-left stations
-  done-less [] s entry later found h = absurd (some-none s found)
+  done-less [] s entry later found h = absurd (none-some s found)
   done-less (a ∷ stations) s entry later found h = elim (cases_Bool (is_at address a)) [
     | inl here ↦
         let first : find (is_at address) (a ∷ stations) ≡ Some a = rw here refl in
-        let own : a.left ≡ entry ∷ later = ap (λ s. s.left) (some-same a s (sym first ∙ found)) ∙ h in
+        let own : a.left ≡ entry ∷ later = ap (λ s. s.left) (same_Some a s (sym first ∙ found)) ∙ h in
         let before : attempts-of a.left ≡ suc (length entry.item.retry) + attempts-of later = ap attempts-of own in
         let after : attempts-of (if is_at address a then after_attempt begun outcome Done a else a).left ≡ attempts-of later =
         ap (λ b. attempts-of (if b then after_attempt begun outcome Done a else a).left) here ∙ ap (λ left. attempts-of (drop 1 left)) own in
@@ -122,12 +122,12 @@ module _ (address : ℕ) (begun : Begun) (outcome : Outcome) where
 -- a station with an item left has an attempt left
 pub left-found : (address : ℕ) (stations : List Present) (s : Present) (entry : Entry) (later : List Entry) → find (is_at address) stations ≡ Some s →
     s.left ≡ entry ∷ later → suc (length entry.item.retry) ≤ attempts-left stations
-left-found address [] s entry later found h = absurd (some-none s found)
+left-found address [] s entry later found h = absurd (none-some s found)
 left-found address (a ∷ stations) s entry later found h = elim (cases_Bool (is_at address a)) [
   | inl here ↦
       let first : find (is_at address) (a ∷ stations) ≡ Some a = rw here refl in
       let own : attempts-of a.left ≡ suc (length entry.item.retry) + attempts-of later =
-      ap attempts-of (ap (λ (s : Present). s.left) (some-same a s (sym first ∙ found)) ∙ h) in
+      ap attempts-of (ap (λ (s : Present). s.left) (same_Some a s (sym first ∙ found)) ∙ h) in
       omega (arith, own)
   | inr other ↦
       let first : find (is_at address) (a ∷ stations) ≡ find (is_at address) stations = rw other refl in

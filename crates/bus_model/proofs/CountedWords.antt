@@ -11,7 +11,7 @@ use Rattle.bus_formats.specs.Readings.{datum_with, datum_in, word_before, data_i
 use Rattle.bus_formats.specs.declared.fault.Hit.{Hit}
 use Rattle.bus_formats.specs.declared.fault.Hit.TheVariants.{Flip, Cut, Extra, Fade}
 use Rattle.bus_model.specs.Strikes.{spoils, spoiled, added_by, struck, with_added}
-use Rattle.bus_model.proofs.OneOrder.{some-none, some-same}
+use Rattle.std.proofs.lemmas.Option.{none-some, same_Some}
 
 -- no word is lost among those that are struck
 spoiled-long : (hits : List Hit) (n : ℕ) (words : List Word) → length (spoiled hits n words) ≡ length words
@@ -50,16 +50,16 @@ extra-counted more words few =
 
 both-there : (first : Option ℕ) (rest : Option (List ℕ)) (words : List ℕ) → word_before first rest ≡ Some words →
     (w : ℕ) × (ws : List ℕ) × (first ≡ Some w) × (rest ≡ Some ws) × (w ∷ ws ≡ words)
-both-there None rest words h = absurd (some-none words h)
-both-there (Some w) None words h = absurd (some-none words h)
-both-there (Some w) (Some ws) words h = (w, ws, refl, refl, some-same _ _ h)
+both-there None rest words h = absurd (none-some words h)
+both-there (Some w) None words h = absurd (none-some words h)
+both-there (Some w) (Some ws) words h = (w, ws, refl, refl, same_Some _ _ h)
 
 datum-sync : (sync : Sync) (bits w : ℕ) → datum_with sync bits ≡ Some w → (sync ≡ Datum) × (bits ≡ w)
-datum-sync Command bits w h = absurd (some-none w h)
-datum-sync Datum bits w h = (refl, some-same _ _ h)
+datum-sync Command bits w h = absurd (none-some w h)
+datum-sync Datum bits w h = (refl, same_Some _ _ h)
 
 datum-word : (slot : Option Word) (w : ℕ) → datum_in slot ≡ Some w → slot ≡ Some (data_word w)
-datum-word None w h = absurd (some-none w h)
+datum-word None w h = absurd (none-some w h)
 datum-word (Some word) w h =
     let is = datum-sync word.sync word.bits w h in
     ap (λ s. Some (record { sync = s; bits = word.bits })) is.0 ∙ ap (λ b. Some (record { sync = Datum; bits = b })) is.1
@@ -68,10 +68,10 @@ datum-word (Some word) w h =
 pub data-counted : (count : ℕ) (slots : List (Option Word)) (words : List ℕ) → data_in count slots ≡ Some words →
     (length words ≡ count) × (slots ≡ map (λ w. Some (data_word w)) words)
 data-counted zero [] words h =
-    let none : [] ≡ words = some-same _ _ h in
+    let none : [] ≡ words = same_Some _ _ h in
     (ap length (sym none), ap (map (λ w. Some (data_word w))) none)
-data-counted zero (slot ∷ slots) words h = absurd (some-none words h)
-data-counted (suc n) [] words h = absurd (some-none words h)
+data-counted zero (slot ∷ slots) words h = absurd (none-some words h)
+data-counted (suc n) [] words h = absurd (none-some words h)
 data-counted (suc n) (slot ∷ slots) words h =
     let both = both-there (datum_in slot) (data_in n slots) words h in
     let rest = data-counted n slots both.1 both.3 in (

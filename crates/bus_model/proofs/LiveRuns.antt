@@ -16,7 +16,8 @@ use Rattle.bus_model.specs.Attempts.{Begun}
 use Rattle.bus_model.specs.Endings.{Passing}
 use Rattle.bus_model.specs.Message.{Present, Message}
 use Rattle.bus_model.specs.Run.{Run, Next, is_at, with_station, after_attempt, next_item, next_in, next_by, give_control, pass_control, with_message}
-use Rattle.bus_model.proofs.OneOrder.{some-none, some-same, cases-option}
+use Rattle.std.proofs.lemmas.Option.{none-some, same_Some}
+use Rattle.bus_model.proofs.Options.{cases-option}
 use Rattle.bus_model.proofs.PassingOn.{PassesAtTheEnd, Passes}
 use Rattle.bus_model.proofs.AttemptsLeft.{attempts-left, left-same, found-same, left-kept, found-kept, done-less}
 
@@ -43,14 +44,14 @@ pub record Live (most n : ℕ) (run : Run) : Type 0 where
 -- the station whose item is next, as it stands among all
 from-left : (s : Present) (left : List Entry) → s.left ≡ left → (next : Next) → next_by (Some s) ≡ Some next →
     (s' : Present) × (later : List Entry) × (Some s ≡ Some s') × (s'.left ≡ next.entry ∷ later)
-from-left s [] own next h = absurd (some-none next (sym (ap (λ l. next_in s l) own) ∙ h))
+from-left s [] own next h = absurd (none-some next (sym (ap (λ l. next_in s l) own) ∙ h))
 from-left s (entry ∷ later) own next h =
-    let same : record { station = s; entry = entry } ≡ next = some-same _ _ (sym (ap (λ l. next_in s l) own) ∙ h) in
+    let same : record { station = s; entry = entry } ≡ next = same_Some _ _ (sym (ap (λ l. next_in s l) own) ∙ h) in
     (s, later, refl, own ∙ ap (λ (n : Next). n.entry ∷ later) same)
 
 pub next-found : (found : Option Present) (next : Next) → next_by found ≡ Some next →
     (s : Present) × (later : List Entry) × (found ≡ Some s) × (s.left ≡ next.entry ∷ later)
-next-found None next h = absurd (some-none next h)
+next-found None next h = absurd (none-some next h)
 next-found (Some s) next h = from-left s s.left refl next h
 
 -- the number of an attempt among those of its item
@@ -98,7 +99,7 @@ done-live most n run next begun m live given own passes few =
     let unspent : spent (with_message run begun Done m).retry ≡ 0 = ap spent none in
     record {
       bound = omega (arith, live.bound, less, same, passed, few, unspent);
-      due = λ state h. absurd (some-none state (sym none ∙ h));
+      due = λ state h. absurd (none-some state (sym none ∙ h));
     }
 
 -- ---- another attempt follows
@@ -157,7 +158,7 @@ again-due run next begun m state given own passes none may turn listed =
       waits = waits-usual m.ending.ended.outcome begun.state.channel m.ending.tick may;
       listed = λ other h.
           let there = next-found (find (is_at run.holder) (with_station run.holder change m.stations)) other h in
-          let same : change after.0 ≡ there.0 = some-same _ _ (sym found ∙ there.2) in
+          let same : change after.0 ≡ there.0 = same_Some _ _ (sym found ∙ there.2) in
           let entries : next.entry ∷ at.1 ≡ other.entry ∷ there.1 =
           sym (after.2 ∙ at.3) ∙ (ap (λ (s : Present). s.left) same ∙ there.3) in
           let entry : next.entry ≡ other.entry = same-entry next.entry other.entry at.1 there.1 entries in
@@ -181,5 +182,5 @@ again-live most n run next begun m state live given own passes turn follows =
     let used : spent (with_message run begun (Again state) m).retry ≡ state.turn - 1 = ap spent retry in
     record {
       bound = omega (arith, live.bound, same, kept, passed, used, facts.1, turn);
-      due = λ other h. subst (IsDue (with_message run begun (Again state) m)) (some-same _ _ (sym retry ∙ h)) due;
+      due = λ other h. subst (IsDue (with_message run begun (Again state) m)) (same_Some _ _ (sym retry ∙ h)) due;
     }

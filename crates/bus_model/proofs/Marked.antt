@@ -7,10 +7,12 @@ use Rattle.bus_base.specs.declared.samples.Channel.{Channel}
 use Rattle.bus_base.specs.declared.samples.Sample.{Sample}
 use Rattle.bus_base.specs.declared.samples.Sample.TheVariants.{Plus, Minus, Quiet}
 use Rattle.bus_line.specs.Past.{quiet, stopped, runs, first_tick, slot_word, slot_between, slot_number, slot_now, end_since}
+use Rattle.bus_line.proofs.PastLaws.{quiet-le, first_tick-runs}
+use Rattle.bus_line.proofs.EndLaws.{end_since-early}
 use Rattle.bus_model.specs.Orders.{command_for}
 use Rattle.bus_model.specs.Hearing.{Moment, heard_on, is_addressed}
 use Rattle.bus_model.specs.Standing.{ignored_from}
-use Rattle.bus_model.proofs.Slots.{slot-later, quiet-le, endless, unbegun, becomes-whole}
+use Rattle.bus_model.proofs.Slots.{slot-later, endless, becomes-whole}
 
 -- what is looked at: on one channel, whether a command in a whole slot of the burst that runs has left a mark
 pub record IsMarked (own k : ℕ) (past : List Sample) (sent addressed : Option ℕ) : Type 0 where
@@ -26,7 +28,7 @@ ignored-on k x past (Some first) few h =
     rw (endless k x past first few none) refl
 
 ignored-now : (k : ℕ) (x : Sample) (past : List Sample) → quiet (x ∷ past) ≤ k → ignored_from k (x ∷ past) (Some (length past)) ≡ true
-ignored-now k x past few = rw (endless k x past (length past) few (unbegun k past)) refl
+ignored-now k x past few = rw (endless k x past (length past) few (end_since-early k past (length past) (omega arith))) refl
 
 heeded : (k : ℕ) (x : Sample) (past : List Sample) (sent later : Option ℕ) → quiet (x ∷ past) ≤ k →
     (later ≡ sent) ⊎ (later ≡ Some (length past)) → ignored_from k (x ∷ past) later ≡ false → ignored_from k past sent ≡ false
@@ -46,16 +48,6 @@ unmarked : (addressed ignored : Bool) (tick : ℕ) (mark : Option ℕ) → ignor
     (if addressed && not ignored then Some tick else mark) ≡ None → (addressed ≡ false) × (mark ≡ None)
 unmarked addressed ignored tick mark free h = grind (arith, free, h)
 
-heard-quiet : (x : Sample) (past : List Sample) → is_quiet x ≡ false → quiet (x ∷ past) ≡ 0
-heard-quiet Plus past h = refl
-heard-quiet Minus past h = refl
-heard-quiet Quiet past h = absurd (true≢false h)
-
-first-on : (k : ℕ) (x : Sample) (past : List Sample) → runs k past ≡ true → first_tick k (x ∷ past) ≡ first_tick k past
-first-on k Plus past h = rw h refl
-first-on k Minus past h = rw h refl
-first-on k Quiet past h = refl
-
 -- the slot that becomes whole in a tick that isn't quiet is looked up in it
 new-slot : (k : ℕ) (x : Sample) (past : List Sample) (i : ℕ) → k < 40 → is_quiet x ≡ false → runs k past ≡ true →
     first_tick k past + 40 * i + 40 ≤ suc (length past) → stopped past < first_tick k past + 40 * i + 40 → slot_number k (x ∷ past) ≡ Some i
@@ -69,7 +61,7 @@ new-slot k x past i small heard running whole new =
 new-bare : (own k : ℕ) (x : Sample) (past : List Sample) (i : ℕ) → runs k past ≡ true → slot_number k (x ∷ past) ≡ Some i →
     is_addressed own (slot_now k (x ∷ past)) ≡ false → command_for own (slot_word (x ∷ past) (first_tick k past) i) ≡ None
 new-bare own k x past i running number h =
-    let first : first_tick k (x ∷ past) ≡ first_tick k past = first-on k x past running in
+    let first : first_tick k (x ∷ past) ≡ first_tick k past = first_tick-runs k x past running in
     let slot : slot_now k (x ∷ past) ≡ Some (record { first = first_tick k past + 40 * i; word = slot_word (x ∷ past) (first_tick k past) i }) =
     rw (number, first) refl in
     is-none _ (ap (is_addressed own) (sym slot) ∙ h)
@@ -105,7 +97,7 @@ first-slot k x past i heard over fits =
 rw-fits : (k : ℕ) (x : Sample) (past : List Sample) (i : ℕ) → runs k past ≡ true →
     first_tick k (x ∷ past) + 40 * i + 40 ≤ stopped (x ∷ past) → first_tick k past + 40 * i + 40 ≤ suc (length past)
 rw-fits k x past i on fits =
-    let first : first_tick k (x ∷ past) ≡ first_tick k past = first-on k x past on in
+    let first : first_tick k (x ∷ past) ≡ first_tick k past = first_tick-runs k x past on in
     omega (arith, first, fits)
 
 -- one tick more of a channel
@@ -116,12 +108,12 @@ bare-on own k Quiet past sent mark before small running free none unaddressed i 
     bare-quiet own k past sent mark before (grind (arith, running)) (grind (arith, running)) free none i fits
 bare-on own k Plus past sent mark before small running free none unaddressed i fits =
     elim (cases_Bool (runs k past)) [
-      | inl on ↦ rw (first-on k Plus past on) (bare-heard own k Plus past sent mark before small refl on free none unaddressed i (rw-fits k Plus past i on fits))
+      | inl on ↦ rw (first_tick-runs k Plus past on) (bare-heard own k Plus past sent mark before small refl on free none unaddressed i (rw-fits k Plus past i on fits))
       | inr over ↦ absurd (first-slot k Plus past i refl over fits)
     ]
 bare-on own k Minus past sent mark before small running free none unaddressed i fits =
     elim (cases_Bool (runs k past)) [
-      | inl on ↦ rw (first-on k Minus past on) (bare-heard own k Minus past sent mark before small refl on free none unaddressed i (rw-fits k Minus past i on fits))
+      | inl on ↦ rw (first_tick-runs k Minus past on) (bare-heard own k Minus past sent mark before small refl on free none unaddressed i (rw-fits k Minus past i on fits))
       | inr over ↦ absurd (first-slot k Minus past i refl over fits)
     ]
 

@@ -1,7 +1,7 @@
 -- Where an order comes from, and that a promise that stands is newer than any command on the other channel.
-use Rattle.std.proofs.Common.{◌≡◌, ◌⊎◌, inl, inr, ℕ, suc, ◌+◌, ◌-◌, ◌/◌, ◌<◌, ◌≤◌, List, ◌∷◌, length, refl, sym, ap, subst, ◌∙◌, arith}
-use Rattle.std.proofs.lemmas.Bool.{cases_Bool, cases_lt, and_parts, true≢false}
-use Rattle.std.specs.Prelude.{Bool, true, false, ◌&&◌, ◌==◌, nat_lt, nat_le, map, Option, Some, None, unwrap_or}
+use Rattle.std.proofs.Common.{◌≡◌, inl, inr, ℕ, suc, ◌+◌, ◌-◌, ◌/◌, ◌<◌, ◌≤◌, List, ◌∷◌, length, refl, sym, ap, subst, ◌∙◌, arith}
+use Rattle.std.proofs.lemmas.Bool.{cases_Bool, cases_lt, and_parts}
+use Rattle.std.specs.Prelude.{true, false, ◌&&◌, ◌==◌, nat_lt, nat_le, map, Option, Some, None}
 use Rattle.std.specs.List.{range_with_len}
 use Rattle.bus_base.specs.Samples.{sample_on}
 use Rattle.bus_base.specs.declared.samples.Channel.{Channel}
@@ -15,7 +15,10 @@ use Rattle.bus_model.specs.Orders.{Order, last_order}
 use Rattle.bus_model.specs.Hearing.{Moment, heard_on}
 use Rattle.bus_model.specs.Standing.{Standing, mark_on, ignored_from, outrun, promised_on, Handled, obeys, settles, runs_out}
 use Rattle.bus_model.specs.Terminal.{standing, order_by, order_of, order_on}
-use Rattle.bus_model.proofs.Slots.{slot-later, bare-none, quiet-le}
+use Rattle.bus_line.proofs.PastLaws.{quiet-le}
+use Rattle.bus_model.proofs.Options.{cases-option}
+use Rattle.std.proofs.lemmas.Option.{none-some, same_Some}
+use Rattle.bus_model.proofs.Slots.{slot-later, bare-none}
 use Rattle.bus_model.proofs.Marked.{IsMarked, heard-long}
 use Rattle.bus_model.proofs.Newest.{marked-always}
 
@@ -25,9 +28,6 @@ Seen k tick s c (obeys on e last rest) =
     (on ≡ c) × (e + k ≤ tick) × ((m : ℕ) × (mark_on s.addressed c ≡ Some m)) × (outrun s c ≡ false)
 Seen k tick s c (settles e slots rest) = promised_on k s c ≡ true
 Seen k tick s c runs_out = ⊥
-
-pub some-none : {A : Type 0} (a : A) → None ≡ Some a → ⊥
-some-none a h = absurd (true≢false (ap (λ o. elim o as (λ x. Bool) [ None ↦ true | Some b ↦ false ]) h))
 
 -- the burst that ended in a tick is of the ticks before it
 ended-quiet : (k : ℕ) (x : Sample) (past : List Sample) → quiet (x ∷ past) ≡ suc k → (x ≡ Quiet) × (quiet past ≡ k)
@@ -55,16 +55,9 @@ ordered-end own k past last h =
     elim (cases_lt (stopped past - first_tick k past) 40) [
       | inl short ↦
           let none : (stopped past - first_tick k past) / 40 ≡ 0 = omega (arith, short) in
-          absurd (some-none last (sym (ap (λ n. last_order own (map (slot_word past (first_tick k past)) (range_with_len 0 n))) none) ∙ h))
+          absurd (none-some last (sym (ap (λ n. last_order own (map (slot_word past (first_tick k past)) (range_with_len 0 n))) none) ∙ h))
       | inr long ↦ omega (arith, long)
     ]
-
-pub cases-option : {X : Type 0} (o : Option X) → (o ≡ None) ⊎ ((a : X) × (o ≡ Some a))
-cases-option None = inl refl
-cases-option (Some a) = inr (a, refl)
-
-pub some-same : {X : Type 0} (a b : X) → Some a ≡ Some b → a ≡ b
-some-same a b h = ap (λ o. unwrap_or o a) h
 
 -- a command in a burst that ended is obeyed where none newer came
 seen-command : (k : ℕ) (t : TerminalData) (s : Standing) (c : Channel) (past : List Sample) (tick : ℕ) (last : Order) (h : Handled) →
@@ -75,18 +68,18 @@ seen-command k t s c past tick last h marked q some free long found given =
     elim (cases_Bool (outrun s c)) [
       | inl older ↦
           let none : order_by k t s c (newest_burst k (Quiet ∷ past)) (Some last) ≡ None = rw older refl in
-          absurd (some-none h (sym none ∙ given))
+          absurd (none-some h (sym none ∙ given))
       | inr newer ↦
           let within : quiet past ≤ length past = quiet-le past in
           let ended : end_of (newest_burst k (Quiet ∷ past)) ≡ stopped (Quiet ∷ past) = ordered-end t.address k (Quiet ∷ past) last found in
           let order : Handled = obeys c (end_of (newest_burst k (Quiet ∷ past))) last (rest_of (newest_burst k (Quiet ∷ past))) in
           let by : order_by k t s c (newest_burst k (Quiet ∷ past)) (Some last) ≡ Some order = rw newer refl in
-          let same : order ≡ h = some-same _ _ (sym by ∙ given) in
+          let same : order ≡ h = same_Some _ _ (sym by ∙ given) in
           elim (cases-option (mark_on s.addressed c)) [
             | inl none ↦
                 let bare : last_order t.address (newest_burst k (Quiet ∷ past)).slots ≡ None =
                 unmarked-ends t.address k past (mark_on s.sent c) (subst (IsMarked t.address k past (mark_on s.sent c)) none marked) q some free in
-                absurd (some-none last (sym bare ∙ found))
+                absurd (none-some last (sym bare ∙ found))
             | inr mark ↦ subst (Seen k tick s c) same
                 (refl, omega (arith, ended, q, within, long), mark, newer)
           ]
@@ -99,10 +92,10 @@ seen-promise k t tick s c burst h given =
       | inl holds ↦
           let order : Handled = settles (end_of burst) burst.slots (rest_of burst) in
           let by : order_by k t s c burst None ≡ Some order = rw holds refl in
-          subst (Seen k tick s c) (some-same _ _ (sym by ∙ given)) (and_parts _ _ holds).0
+          subst (Seen k tick s c) (same_Some _ _ (sym by ∙ given)) (and_parts _ _ holds).0
       | inr fails ↦
           let none : order_by k t s c burst None ≡ None = rw fails refl in
-          absurd (some-none h (sym none ∙ given))
+          absurd (none-some h (sym none ∙ given))
     ]
 
 seen-last : (k : ℕ) (t : TerminalData) (s : Standing) (c : Channel) (past : List Sample) (tick : ℕ) (last : Option Order) (h : Handled) →
@@ -134,7 +127,7 @@ seen k t loads memory now past c h small given =
     elim (cases_Bool (ignored_from k (heard_on c past) (mark_on s.sent c))) [
       | inl ignored ↦
           let none : order_on k t (now ∷ past) s c ≡ None = rw ignored refl in
-          absurd (some-none h (sym none ∙ given))
+          absurd (none-some h (sym none ∙ given))
       | inr free ↦
           let by : order_on k t (now ∷ past) s c ≡ order_of k t s c (ended_now k (heard_on c (now ∷ past))) = rw free refl in
           elim (cases_Bool ((quiet (heard_on c (now ∷ past)) == suc k) && nat_lt 0 (stopped (heard_on c (now ∷ past))))) [
@@ -143,6 +136,24 @@ seen k t loads memory now past c h small given =
                 (heard-long c past) (ends-so k (heard_on c (now ∷ past)) ends) (sym by ∙ given)
             | inr goes ↦
                 let none : order_of k t s c (ended_now k (heard_on c (now ∷ past))) ≡ None = rw goes refl in
-                absurd (some-none h (sym none ∙ (sym by ∙ given)))
+                absurd (none-some h (sym none ∙ (sym by ∙ given)))
+          ]
+    ]
+
+-- an order comes with the k + 1st quiet tick after its burst
+pub ends-now : (k : ℕ) (t : TerminalData) (s : Standing) (c : Channel) (now : Moment) (past : List Moment) (h : Handled) →
+    order_on k t (now ∷ past) s c ≡ Some h → (quiet (heard_on c (now ∷ past)) ≡ suc k) × (0 < stopped (heard_on c (now ∷ past)))
+ends-now k t s c now past h given =
+    elim (cases_Bool (ignored_from k (heard_on c past) (mark_on s.sent c))) [
+      | inl ignored ↦
+          let none : order_on k t (now ∷ past) s c ≡ None = rw ignored refl in
+          absurd (none-some h (sym none ∙ given))
+      | inr free ↦
+          let by : order_on k t (now ∷ past) s c ≡ order_of k t s c (ended_now k (heard_on c (now ∷ past))) = rw free refl in
+          elim (cases_Bool ((quiet (heard_on c (now ∷ past)) == suc k) && nat_lt 0 (stopped (heard_on c (now ∷ past))))) [
+            | inl ends ↦ ends-so k (heard_on c (now ∷ past)) ends
+            | inr goes ↦
+                let none : order_of k t s c (ended_now k (heard_on c (now ∷ past))) ≡ None = rw goes refl in
+                absurd (none-some h (sym none ∙ (sym by ∙ given)))
           ]
     ]

@@ -17,45 +17,45 @@ use Rattle.bus_model.specs.Orders.{Duty, free, owes, promises, Order}
 use Rattle.bus_model.specs.Strikes.{ShownBurst, burst_end, ShownAnswer, shown_answer, hits_on}
 use Rattle.bus_model.specs.Endings.{Passing, Ending, ends, second_read, second_ending, good_ending, doubt_ending, read_ending, first_read, heard_ending, ending_by, ending_of}
 use Rattle.bus_model.specs.Message.{Present, address_of_station, After, after_command, after_command_of, after_answer, after_answer_of, after_silence, after_silence_of, answer_to, Message, message, message_obeyed}
-use Rattle.bus_model.proofs.OneOrder.{some-none}
+use Rattle.std.proofs.lemmas.Option.{none-some}
 
 -- where control passes, no retry follows
 abbrev pub PassesAtTheEnd : Ending → Type 0
 PassesAtTheEnd ending = (p : Passing) → ending.passes ≡ Some p → may_retry ending.ended.outcome ≡ false
 
 ends-well : (outcome : Outcome) (first second : Option ℕ) (tick : ℕ) → PassesAtTheEnd (ends outcome first second tick)
-ends-well outcome first second tick p h = absurd (some-none p h)
+ends-well outcome first second tick p h = absurd (none-some p h)
 
 second_read-well : (k : ℕ) (kind : Kind) (status end : ℕ) (reading : Reading) → PassesAtTheEnd (second_read k kind status end reading)
-second_read-well k kind status end (Good second) p h = absurd (some-none p h)
-second_read-well k kind status end (Ends outcome second) p h = absurd (some-none p h)
+second_read-well k kind status end (Good second) p h = absurd (none-some p h)
+second_read-well k kind status end (Ends outcome second) p h = absurd (none-some p h)
 
 second_ending-well : (k : ℕ) (kind : Kind) (status end : ℕ) (second : Option ShownAnswer) → PassesAtTheEnd (second_ending k kind status end second)
-second_ending-well k kind status end None p h = absurd (some-none p h)
+second_ending-well k kind status end None p h = absurd (none-some p h)
 second_ending-well k kind status end (Some second) p h = second_read-well k kind status _ _ p h
 
 good_ending-well : (k : ℕ) (kind : Kind) (status : ℕ) (first : ShownAnswer) (second : Option ShownAnswer) (shape : Option Shape) →
     PassesAtTheEnd (good_ending k kind status first second shape)
-good_ending-well k kind status first second None p h = absurd (some-none p h)
+good_ending-well k kind status first second None p h = absurd (none-some p h)
 good_ending-well k kind status first second (Some shape) p h = second_ending-well k kind status _ second p h
 
 doubt_ending-well : (k : ℕ) (kind : Kind) (first : ShownAnswer) (acceptance : Bool) → PassesAtTheEnd (doubt_ending k kind first acceptance)
 doubt_ending-well k kind first true p h = refl
-doubt_ending-well k kind first false p h = absurd (some-none p h)
+doubt_ending-well k kind first false p h = absurd (none-some p h)
 
 read_ending-well : (k : ℕ) (kind : Kind) (first : ShownAnswer) (offer : Bool) (outcome : Outcome) (status : Option ℕ) →
     PassesAtTheEnd (read_ending k kind first offer outcome status)
 read_ending-well k kind first offer Passed status p h = refl
 read_ending-well k kind first true (BadReply part) status p h = doubt_ending-well k kind first first.sent.acceptance p h
-read_ending-well k kind first false (BadReply part) status p h = absurd (some-none p h)
-read_ending-well k kind first offer Clear status p h = absurd (some-none p h)
-read_ending-well k kind first offer Sent status p h = absurd (some-none p h)
-read_ending-well k kind first offer Declined status p h = absurd (some-none p h)
-read_ending-well k kind first offer (Illegal part) status p h = absurd (some-none p h)
-read_ending-well k kind first offer (Busy part) status p h = absurd (some-none p h)
-read_ending-well k kind first offer (NoResponse part) status p h = absurd (some-none p h)
-read_ending-well k kind first offer Abandoned status p h = absurd (some-none p h)
-read_ending-well k kind first offer Yielded status p h = absurd (some-none p h)
+read_ending-well k kind first false (BadReply part) status p h = absurd (none-some p h)
+read_ending-well k kind first offer Clear status p h = absurd (none-some p h)
+read_ending-well k kind first offer Sent status p h = absurd (none-some p h)
+read_ending-well k kind first offer Declined status p h = absurd (none-some p h)
+read_ending-well k kind first offer (Illegal part) status p h = absurd (none-some p h)
+read_ending-well k kind first offer (Busy part) status p h = absurd (none-some p h)
+read_ending-well k kind first offer (NoResponse part) status p h = absurd (none-some p h)
+read_ending-well k kind first offer Abandoned status p h = absurd (none-some p h)
+read_ending-well k kind first offer Yielded status p h = absurd (none-some p h)
 
 first_read-well : (k : ℕ) (kind : Kind) (first : ShownAnswer) (second : Option ShownAnswer) (reading : Reading) →
     PassesAtTheEnd (first_read k kind first second reading)
@@ -64,13 +64,13 @@ first_read-well k kind first second (Ends outcome status) p h = read_ending-well
 
 heard_ending-well : (k : ℕ) (kind : Kind) (first : ShownAnswer) (second : Option ShownAnswer) (abandon : Option ℕ) →
     PassesAtTheEnd (heard_ending k kind first second abandon)
-heard_ending-well k kind first second (Some tick) p h = absurd (some-none p h)
+heard_ending-well k kind first second (Some tick) p h = absurd (none-some p h)
 heard_ending-well k kind first second None p h = first_read-well k kind first second _ p h
 
 ending_by-well : (k : ℕ) (kind : Kind) (abandon : Option ℕ) (end : ℕ) (first second : Option ShownAnswer) (shape : Option Shape) →
     PassesAtTheEnd (ending_by k kind abandon end first second shape)
-ending_by-well k kind abandon end first second None p h = absurd (some-none p h)
-ending_by-well k kind abandon end None second (Some shape) p h = absurd (some-none p h)
+ending_by-well k kind abandon end first second None p h = absurd (none-some p h)
+ending_by-well k kind abandon end None second (Some shape) p h = absurd (none-some p h)
 ending_by-well k kind abandon end (Some first) second (Some shape) p h = heard_ending-well k kind first second _ p h
 
 ending_of-well : (k : ℕ) (item : ItemData) (end : ℕ) (first second : Option ShownAnswer) → PassesAtTheEnd (ending_of k item end first second)

@@ -16,7 +16,8 @@ use Rattle.bus_model.specs.Hearing.{Moment}
 use Rattle.bus_model.specs.Standing.{Marks, no_marks, Standing, mark_on, Handled, obeys, settles, runs_out, is_from, is_newer, is_promise}
 use Rattle.bus_model.specs.Terminal.{standing, after_tick, order_on, order_now, kept_by, ordered, addressed_on}
 use Rattle.bus_model.proofs.Newest.{addressed-after, addressed-either}
-use Rattle.bus_model.proofs.OneOrder.{Seen, seen, some-none, some-same}
+use Rattle.std.proofs.lemmas.Option.{none-some, same_Some}
+use Rattle.bus_model.proofs.OneOrder.{Seen, seen}
 
 -- the newest command is on this channel, up to one that ended in or after the tick in which the order with this end was handled
 pub record Newest (k n : ℕ) (c : Channel) (end : ℕ) (marks : Marks) : Type 0 where
@@ -76,7 +77,7 @@ either-option (Some b) second a h = inl h
 
 runs-out-alone : (b : Bool) (h : Handled) → (if b then Some runs_out else None) ≡ Some h → runs_out ≡ h
 runs-out-alone true h given = ap (λ o. elim o as (λ x. Handled) [ None ↦ runs_out | Some a ↦ a ]) given
-runs-out-alone false h given = absurd (some-none h given)
+runs-out-alone false h given = absurd (none-some h given)
 
 -- a command that is obeyed is the newest on its channel
 obeyed-newest : (k n : ℕ) (s : Standing) (x c : Channel) (e : ℕ) (last : Order) (rest : ℕ) → Seen k n s x (obeys c e last rest) →
@@ -122,7 +123,7 @@ below-on k t loads now past s before c a h =
     elim (addressed-either k t now past s c) [
       | inl same ↦ omega (arith, before c a (sym same ∙ marked))
       | inr here ↦
-          let tick : length past ≡ a = some-same _ _ (sym here ∙ marked) in
+          let tick : length past ≡ a = same_Some _ _ (sym here ∙ marked) in
           omega (arith, tick)
     ]
 
@@ -142,8 +143,8 @@ newest-on k t loads now past s c e below newest =
     record { m = kept.0; marked = kept.1; newest = kept.2; known = omega (arith, newest.known) }
 
 no-marks : (c : Channel) (a : ℕ) → mark_on no_marks c ≡ Some a → a < 0
-no-marks A a h = absurd (some-none a h)
-no-marks B a h = absurd (some-none a h)
+no-marks A a h = absurd (none-some a h)
+no-marks B a h = absurd (none-some a h)
 
 -- what stands, after whatever was heard
 pub stands-always : (k : ℕ) (t : TerminalData) (loads : List TimedLoad) (memory : Memory) (ticks : List Moment) → k < 40 →

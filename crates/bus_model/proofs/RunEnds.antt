@@ -13,7 +13,8 @@ use Rattle.bus_model.specs.Attempts.{Begun}
 use Rattle.bus_model.specs.Message.{Message}
 use Rattle.bus_model.specs.Run.{Run, Next, is_at, next_item, with_message, next_attempt, attempt, attempts_after, most_attempts, first_run, first_present, run_of}
 use Rattle.bus_model.proofs.OneAttempt.{attempt-none, attempt-adds}
-use Rattle.bus_model.proofs.OneOrder.{some-none, cases-option}
+use Rattle.std.proofs.lemmas.Option.{none-some}
+use Rattle.bus_model.proofs.Options.{cases-option}
 use Rattle.bus_model.proofs.PassingOn.{Passes, message-passes}
 use Rattle.bus_model.proofs.AttemptsLeft.{attempts-of, attempts-left, left-found}
 use Rattle.bus_model.proofs.LiveRuns.{spent, Live, next-found, turn-is, spent-listed, done-live, again-live}
@@ -80,7 +81,7 @@ pub run-ends : (k : ℕ) (loads : List TimedLoad) (plan : PlanData) → next_ite
 unfolding run_of
 run-ends k loads plan =
     let most = most_attempts plan in
-    let live : Live most 0 (first_run plan) = record { bound = omega (arith, first-left plan plan.stations); due = λ state h. absurd (some-none state h) } in
+    let live : Live most 0 (first_run plan) = record { bound = omega (arith, first-left plan plan.stations); due = λ state h. absurd (none-some state h) } in
     elim (goes-on k loads plan.faults most most (first_run plan) live) [
       | inl over ↦ over
       | inr on ↦ elim (cases-option (next_item (attempts_after k loads plan.faults most (first_run plan)))) [

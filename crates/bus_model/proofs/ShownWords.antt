@@ -3,7 +3,7 @@ use Rattle.std.proofs.Common.{◌≡◌, inl, inr, ℕ, ◌+◌, ◌*◌, ◌/�
 use Rattle.std.proofs.lemmas.List.FromFn.{length-map-range_with_len, get_or-map-range_with_len}
 use Rattle.std.proofs.lemmas.List.{ext_get_or, get_or_past}
 use Rattle.std.proofs.lemmas.Bool.{cases_lt, lt-leb}
-use Rattle.bus_model.proofs.OneOrder.{cases-option}
+use Rattle.bus_model.proofs.Options.{cases-option}
 use Rattle.std.specs.Prelude.{◌≢◌, Bool, true, false, nat_le, if◌then◌else◌, Some, None}
 use Rattle.bus_base.specs.Flips.{IsUndetectable, takes}
 use Rattle.bus_base.specs.Samples.{exchanged}

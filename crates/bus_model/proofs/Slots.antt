@@ -1,9 +1,8 @@
 -- The slots of a burst that runs, one tick on: what its slots spell stays, and the one that becomes whole ends in that tick.
-use Rattle.std.proofs.Common.{◌≡◌, ℕ, zero, suc, ◌+◌, ◌-◌, ◌*◌, ◌/◌, ◌<◌, ◌≤◌, List, [], ◌∷◌, length, refl, arith}
+use Rattle.std.proofs.Common.{◌≡◌, ℕ, zero, suc, ◌+◌, ◌-◌, ◌*◌, ◌/◌, ◌<◌, ◌≤◌, List, ◌∷◌, length, refl, arith}
 use Rattle.std.specs.Prelude.{map, Option, Some, None}
 use Rattle.std.specs.List.{range_with_len}
 use Rattle.bus_base.specs.declared.samples.Sample.{Sample}
-use Rattle.bus_base.specs.declared.samples.Sample.TheVariants.{Plus, Minus, Quiet}
 use Rattle.bus_words.specs.declared.word.Word.{Word}
 use Rattle.bus_line.specs.Past.{quiet, slot_word, slot_between, end_since}
 use Rattle.bus_model.specs.Orders.{command_for, last_order}
@@ -25,23 +24,11 @@ bare-none own f start (suc n) h =
     let here : command_for own (f start) ≡ None = h start (omega arith) (omega arith) in
     rw (rest, here) refl
 
-pub quiet-le : (past : List Sample) → quiet past ≤ length past
-quiet-le [] = omega arith
-quiet-le (Plus ∷ past) = omega arith
-quiet-le (Minus ∷ past) = omega arith
-quiet-le (Quiet ∷ past) = let below : quiet past ≤ length past = quiet-le past in omega arith
-
 -- while fewer than k + 1 ticks in a row are quiet, what began has no end
 pub endless : (k : ℕ) (x : Sample) (past : List Sample) (first : ℕ) → quiet (x ∷ past) ≤ k → end_since k past first ≡ None →
     end_since k (x ∷ past) first ≡ None
 unfolding end_since
 endless k x past first few none = grind (arith, few, none)
-
--- what begins now has no end yet
-pub unbegun : (k : ℕ) (past : List Sample) → end_since k past (length past) ≡ None
-unfolding end_since
-unbegun k [] = refl
-unbegun k (x ∷ past) = grind arith
 
 -- a slot that becomes whole with a tick that isn't quiet is the one that ends in it
 pub becomes-whole : (i before now : ℕ) → before < 40 * i + 40 → 40 * i + 40 ≤ now → now < 40 * i + 80 → slot_between before now ≡ Some i

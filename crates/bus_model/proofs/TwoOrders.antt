@@ -10,7 +10,8 @@ use Rattle.bus_model.specs.Memory.{Memory, TimedLoad}
 use Rattle.bus_model.specs.Hearing.{Moment}
 use Rattle.bus_model.specs.Standing.{Standing, mark_on, Handled, obeys, settles, runs_out, is_newer, superseded, outrun, is_promise, promised_on}
 use Rattle.bus_model.specs.Terminal.{standing, order_on}
-use Rattle.bus_model.proofs.OneOrder.{Seen, seen, cases-option}
+use Rattle.bus_model.proofs.Options.{cases-option}
+use Rattle.bus_model.proofs.OneOrder.{Seen, seen}
 use Rattle.bus_model.proofs.Promises.{Newest, Stands, stands-always}
 
 -- of two marks one is newer
@@ -25,7 +26,7 @@ both-outrun s a b marked-a marked-b first second =
     (sym (ap (λ m. is_newer A m (mark_on s.addressed B)) marked-a ∙ ap (is_newer A (Some a)) marked-b) ∙ second)
 
 -- a promise that stands on a channel: what is known of the marks
-standing-promise : (k n : ℕ) (s : Standing) (c : Channel) → Stands k n s → promised_on k s c ≡ true →
+pub standing-promise : (k n : ℕ) (s : Standing) (c : Channel) → Stands k n s → promised_on k s c ≡ true →
     (same_channel s.channel c ≡ true) × ((m : ℕ) × (mark_on s.addressed s.channel ≡ Some m)
     × (is_newer (other_of s.channel) (mark_on s.addressed (other_of s.channel)) (Some m) ≡ false))
 standing-promise k n s c stands h =
@@ -44,7 +45,7 @@ standing-promise k n s c stands h =
     )
 
 -- a promise on A stands beside no newer command on B, and the other way round
-on-a : (k n : ℕ) (s : Standing) (c : Channel) → s.channel ≡ c → (b : ℕ) → Stands k n s → promised_on k s A ≡ true → mark_on s.addressed B ≡ Some b →
+pub on-a : (k n : ℕ) (s : Standing) (c : Channel) → s.channel ≡ c → (b : ℕ) → Stands k n s → promised_on k s A ≡ true → mark_on s.addressed B ≡ Some b →
     outrun s B ≡ false → ⊥
 on-a k n s A on b stands h marked newer =
     let promise = standing-promise k n s A stands h in
@@ -56,7 +57,7 @@ on-a k n s B on b stands h marked newer =
     let promise = standing-promise k n s A stands h in
     absurd (true≢false (sym promise.0 ∙ ap (λ c. same_channel c A) on))
 
-on-b : (k n : ℕ) (s : Standing) (c : Channel) → s.channel ≡ c → (a : ℕ) → Stands k n s → promised_on k s B ≡ true → mark_on s.addressed A ≡ Some a →
+pub on-b : (k n : ℕ) (s : Standing) (c : Channel) → s.channel ≡ c → (a : ℕ) → Stands k n s → promised_on k s B ≡ true → mark_on s.addressed A ≡ Some a →
     outrun s A ≡ false → ⊥
 on-b k n s B on a stands h marked newer =
     let promise = standing-promise k n s B stands h in
