@@ -1,20 +1,20 @@
 -- Every plan that is read is accepted.
-use Rattle.std.proofs.Common.{◌≡◌, ◌<◌, ◌≤◌, ℕ, Bool, true, false, cond, ◌&&◌, ◌==◌, List, [], ◌∷◌, length, get_or, Option, Some, None, Result, Ok, Err, IfOk, All, Contains, IsNone, arith, refl, sym, ap, ◌∙◌, subst, eq-eqb, codes, pos, negsuc, map}
+use Rattle.std.proofs.Common.{◌≡◌, ◌≤◌, ℕ, Bool, true, false, cond, ◌==◌, List, ◌∷◌, get_or, Option, Some, None, Result, Ok, Err, IfOk, Contains, IsNone, arith, refl, ap, subst, eq-eqb, codes, pos, negsuc}
 use Rattle.std.specs.Prelude.{option_map, is_some}
-use Rattle.std.proofs.lemmas.Bool.{cases_Bool, false≢true}
+use Rattle.std.proofs.lemmas.Bool.{false≢true}
 use Rattle.std.proofs.lemmas.Bool.Decides.{nat_tests}
 use Rattle.toml.specs.Data.{Data, integer, string, float, boolean, datetime, array, table, Members, get_member}
-use Rattle.bus_formats.specs.Accepted.{IsController, IsFrameSendable, IsAccepted, addresses}
-use Rattle.bus_formats.specs.Plans.{StationData, PlanData}
+use Rattle.bus_formats.specs.Accepted.{IsController, IsAccepted, addresses}
+use Rattle.bus_formats.specs.Plans.{PlanData}
 use Rattle.bus_plan.specs.Decode.{number_at}
 use Rattle.bus_plan.specs.DecodeFaults.{plan_of}
-use Rattle.bus_plan.specs.DecodeItems.{address_of, station_of, subsystem_of}
+use Rattle.bus_plan.specs.DecodeItems.{address_of, station_of}
 use Rattle.bus_plan.specs.Document.{document_of, number_within, number_in, number_or, lies_in}
 use Rattle.bus_plan.specs.FaultRules.{undetectable, same_fault}
 use Rattle.bus_plan.specs.ItemRules.{same_address, start_missing, in_stations, has_address}
 use Rattle.bus_plan.specs.Limits.{too_many}
 use Rattle.bus_plan.specs.Place.{or_place}
-use Rattle.bus_plan.specs.PlanOf.{first_of, head_of, document_refusal, item_refusal, fault_refusal, unless, judged_plan, judged_with, judged_document, judged, plan_of_bytes}
+use Rattle.bus_plan.specs.PlanOf.{first_of, head_of, document_refusal, item_refusal, fault_refusal, unless, judged_plan, judged, plan_of_bytes}
 use Rattle.bus_plan.specs.Ranges.{address_range, terminal_range, controller_range}
 use Rattle.bus_plan.specs.declared.item_rules.ItemRule.TheVariants as rules
 use Rattle.bus_plan.specs.declared.refusal.PlanRefusal.{PlanRefusal}

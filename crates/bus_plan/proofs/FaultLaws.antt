@@ -1,14 +1,14 @@
 -- A plan whose faults and amounts break no rule has faults apart and keeps the limits.
-use Rattle.std.proofs.Common.{◌≡◌, ◌<◌, ◌≤◌, ◌+◌, ◌*◌, ◌⊎◌, inl, inr, ℕ, zero, suc, Bool, true, false, cond, ◌&&◌, ◌||◌, ◌==◌, List, [], ◌∷◌, take, length, get_or, Option, Some, None, All, AllPairs, arith, refl, sym, ap, ◌∙◌, subst, eq-eqb}
-use Rattle.std.specs.Prelude.{nat_lt, sum_by}
+use Rattle.std.proofs.Common.{◌≡◌, ◌<◌, ◌≤◌, ◌+◌, ◌*◌, inl, inr, ℕ, zero, suc, Bool, true, false, cond, ◌&&◌, ◌==◌, List, [], ◌∷◌, take, length, get_or, Option, Some, None, All, AllPairs, arith, refl, sym, ◌∙◌, subst, eq-eqb}
+use Rattle.std.specs.Prelude.{nat_lt}
 use Rattle.std.specs.List.{list_any, fold}
 use Rattle.std.proofs.lemmas.Bool.{and_from, cases_Bool, false≢true}
 use Rattle.std.proofs.lemmas.Bool.Decides.{nat_tests}
 use Rattle.std.proofs.lemmas.List.Folds.{list_any_at}
 use Rattle.bus_base.specs.declared.samples.Part.{Part}
 use Rattle.bus_base.specs.declared.samples.Part.TheVariants.{Command, First, Second}
-use Rattle.bus_formats.specs.Accepted.{word_struck, StrikesTheSame, items_in, ticks_in, IsWithinLimits}
-use Rattle.bus_formats.specs.Plans.{FrameData, StationData, PlanData}
+use Rattle.bus_formats.specs.Accepted.{word_struck, StrikesTheSame, items_in, IsWithinLimits}
+use Rattle.bus_formats.specs.Plans.{StationData, PlanData}
 use Rattle.bus_formats.specs.declared.fault.Fault.{Fault}
 use Rattle.bus_formats.specs.declared.fault.Hit.{Hit}
 use Rattle.bus_formats.specs.declared.fault.Hit.TheVariants.{Flip, Cut, Extra, Fade}
@@ -92,8 +92,9 @@ frames_few : (most : ℕ) (ss : List StationData) → most ≤ 1024 → list_any
     → All (λ s. length s.frames ≤ 1024) ss
 frames_few most ss m h k d within =
     elim (cases_Bool (nat_lt most (length (get_or ss k d).frames))) [
-        inl holds ↦ absurd (false≢true (sym h ∙ list_any_at (λ s. nat_lt most (length s.frames)) ss k d within holds))
-        | inr fails ↦ omega (arith, not_above most (length (get_or ss k d).frames) fails, m) ]
+      | inl holds ↦ absurd (false≢true (sym h ∙ list_any_at (λ s. nat_lt most (length s.frames)) ss k d within holds))
+      | inr fails ↦ omega (arith, not_above most (length (get_or ss k d).frames) fails, m)
+    ]
 
 -- a plan that has nothing too much keeps the limits
 pub limits_kept : (head : Head) (p : PlanData) → too_many head p ≡ None → IsWithinLimits p

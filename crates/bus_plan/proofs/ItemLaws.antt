@@ -1,17 +1,16 @@
 -- A plan whose stations and items break no rule has stations apart and items that may be sent.
-use Rattle.std.proofs.Common.{◌≡◌, ◌≢◌, ◌<◌, ◌≤◌, ◌+◌, ◌⊎◌, inl, inr, ℕ, zero, suc, Bool, true, false, not, cond, ◌&&◌, ◌||◌, ◌==◌, List, [], ◌∷◌, map, take, drop, length, get_or, Option, Some, None, All, AllPairs, Contains, IsSome, arith, refl, sym, ap, ◌∙◌, subst, eqb-true, eq-eqb}
+use Rattle.std.proofs.Common.{◌≡◌, ◌≢◌, ◌<◌, ◌+◌, inl, inr, ℕ, zero, suc, Bool, true, false, not, cond, ◌&&◌, ◌||◌, ◌==◌, List, [], ◌∷◌, map, take, length, get_or, Option, Some, None, All, AllPairs, Contains, IsSome, arith, refl, sym, ◌∙◌, eqb-true, eq-eqb}
 use Rattle.std.specs.Prelude.{is_some, is_none, ⊤}
-use Rattle.std.specs.List.{list_any}
-use Rattle.std.proofs.lemmas.Bool.{and_cases, cases_Bool, cases_eq, false≢true}
+use Rattle.std.proofs.lemmas.Bool.{and_cases, cases_Bool, false≢true}
 use Rattle.std.proofs.lemmas.List.Elements.{All-nil, All-cons}
 use Rattle.std.proofs.lemmas.List.Kept.{AllPairs-cons}
 use Rattle.std.proofs.lemmas.List.{get_or-map, length-map}
-use Rattle.bus_formats.specs.Accepted.{addresses_named, addresses, IsSendable, Supersedes, IsSuperseded, HasSuperseding, IsFrameSendable}
+use Rattle.bus_formats.specs.Accepted.{addresses, IsSendable, Supersedes, IsSuperseded, HasSuperseding, IsFrameSendable}
 use Rattle.bus_formats.specs.Forms.{form_of}
 use Rattle.bus_formats.specs.Plans.{ItemData, FrameData, StationData, PlanData}
 use Rattle.bus_formats.specs.declared.plan.Kind.{Kind}
 use Rattle.bus_formats.specs.declared.plan.Kind.TheVariants.{Receive, Transmit, Relay, Mode}
-use Rattle.bus_plan.specs.ItemRules.{has_address, same_address, start_missing, is_absent, is_own, names_absent, names_own, may_cut_short, may_abandon, breaks, in_items, in_frames, in_stations}
+use Rattle.bus_plan.specs.ItemRules.{has_address, same_address, is_absent, is_own, names_absent, names_own, may_cut_short, may_abandon, breaks, in_items, in_frames, in_stations}
 use Rattle.bus_plan.specs.Place.{or_place}
 use Rattle.bus_plan.specs.declared.item_rules.ItemRule.{ItemRule}
 use Rattle.bus_plan.specs.declared.item_rules.ItemRule.TheVariants.{NoSuchStation, SelfAddressed, BadForm, BadAbandon}
@@ -45,9 +44,10 @@ pub contains_address : (a : ℕ) (ss : List StationData) → has_address a ss �
 contains_address a [] h = absurd (false≢true h)
 contains_address a (s ∷ ss) h =
     elim (cases_Bool (s.terminal.address == a)) [
-        inl holds ↦ (0, omega arith, eqb-true s.terminal.address a holds)
-        | inr fails ↦ contains_cons a s.terminal.address (map (λ s. s.terminal.address) ss)
-            (contains_address a ss (rw fails at h)) ]
+      | inl holds ↦ (0, omega arith, eqb-true s.terminal.address a holds)
+      | inr fails ↦ contains_cons a s.terminal.address (map (λ s. s.terminal.address) ss)
+          (contains_address a ss (rw fails at h))
+    ]
 
 -- no item of a list, with those that follow it, breaks a rule
 abbrev pub Keeps : ItemRule → List StationData → StationData → List ItemData → Type 0
@@ -83,14 +83,16 @@ not_false false h = absurd (false≢true (sym h))
 known : (plan : PlanData) (a : ℕ) → is_absent plan.stations a ≡ false → a ≢ 31 → Contains (addresses plan) a
 known plan a h other =
     elim (and_cases (not (a == 31)) (not (has_address a plan.stations)) h) [
-        inl last ↦ absurd (other (eqb-true a 31 (not_false (a == 31) last)))
-        | inr there ↦ contains_address a plan.stations (not_false (has_address a plan.stations) there) ]
+      | inl last ↦ absurd (other (eqb-true a 31 (not_false (a == 31) last)))
+      | inr there ↦ contains_address a plan.stations (not_false (has_address a plan.stations) there)
+    ]
 
 not_own : (own : StationData) (a : ℕ) → is_own own a ≡ false → a ≢ 31 → a ≢ own.terminal.address
 not_own own a h other same =
     elim (and_cases (not (a == 31)) (a == own.terminal.address) h) [
-        inl last ↦ other (eqb-true a 31 (not_false (a == 31) last))
-        | inr apart ↦ false≢true (sym apart ∙ eq-eqb a own.terminal.address same) ]
+      | inl last ↦ other (eqb-true a 31 (not_false (a == 31) last))
+      | inr apart ↦ false≢true (sym apart ∙ eq-eqb a own.terminal.address same)
+    ]
 
 one : (P : ℕ → Type 0) (a : ℕ) → P a → All P (a ∷ [])
 one P a p = All-cons P a [] p (All-nil P)
@@ -170,8 +172,9 @@ abandons : (i : ItemData) (rest : List ItemData) → (is_some i.abandon && not (
     → IsSuperseded i.kind rest
 abandons i rest h some =
     elim (and_cases (is_some i.abandon) (not (may_abandon i rest)) h) [
-        inl none ↦ absurd (false≢true (sym none ∙ some))
-        | inr may ↦ follows i rest (not_false (may_abandon i rest) may) ]
+      | inl none ↦ absurd (false≢true (sym none ∙ some))
+      | inr may ↦ follows i rest (not_false (may_abandon i rest) may)
+    ]
 
 superseding : (all : List StationData) (own : StationData) (items : List ItemData) → Keeps BadAbandon all own items → HasSuperseding items
 superseding all own [] h = tt

@@ -1,6 +1,6 @@
 -- Each number of a plan that is read lies in its range.
-use Rattle.std.proofs.Common.{◌≡◌, ◌<◌, ◌≤◌, ◌^◌, ◌/◌, ◌%◌, ◌+◌, ◌⊎◌, inl, inr, ℕ, zero, suc, max, Bool, true, false, cond, ◌&&◌, pos, negsuc, List, [], ◌∷◌, ◌++◌, length, Option, Some, None, All, IfSome, bit_or, arith, refl, sym, subst, codes, nat_lt, length-append}
-use Rattle.std.proofs.lemmas.Bool.{cases_lt, cases_eq, and_parts}
+use Rattle.std.proofs.Common.{◌≡◌, ◌<◌, ◌≤◌, ◌^◌, inl, inr, ℕ, Bool, true, false, cond, pos, negsuc, List, [], ◌∷◌, ◌++◌, length, Option, Some, None, All, IfSome, bit_or, arith, refl, sym, subst, nat_lt, length-append}
+use Rattle.std.proofs.lemmas.Bool.{cases_eq}
 use Rattle.std.proofs.lemmas.Bool.Decides.{nat_tests}
 use Rattle.std.proofs.lemmas.List.Elements.{All-nil, All-cons, All-append, All-push}
 use Rattle.std.proofs.lemmas.Nat.Bits.{bit_at_or, bit_at-pow_other, bit_at-zero}
@@ -8,7 +8,7 @@ use Rattle.toml.specs.Data.{Data, string, integer, float, boolean, datetime, arr
 use Rattle.bus_base.specs.Positions.{IsBetween}
 use Rattle.bus_formats.specs.Accepted.{AreWords, ListsOnly}
 use Rattle.bus_plan.specs.Decode.{of_table, tables, tables_of, tables_at, number_at, list_at, words_from, words_of, words_at, filled, refusal_of, least_of, bits_from, bits_of, bits_at}
-use Rattle.bus_plan.specs.Document.{number_within, number_or, number_in, lies_in, list_of}
+use Rattle.bus_plan.specs.Document.{number_within, number_or, number_in, lies_in}
 use Rattle.bus_plan.specs.Positions.{pushed}
 use Rattle.bus_plan.specs.Ranges.{word_range}
 use Rattle.bus_plan.specs.Rules.{refusable}
@@ -130,8 +130,9 @@ lists_more : (P : ℕ → Type 0) (set k : ℕ) → ListsOnly P set → P k → 
 lists_more P set k h p n b =
     let either = bit_at_or set (2 ^ k) n in
     elim (cases_eq n k) [
-        inl e ↦ subst P (sym e) p
-        | inr ne ↦ let other = bit_at-pow_other k n ne in h n (omega (arith, b, either, other)) ]
+      | inl e ↦ subst P (sym e) p
+      | inr ne ↦ let other = bit_at-pow_other k n ne in h n (omega (arith, b, either, other))
+    ]
 
 lists_from : (P : ℕ → Type 0) (which : Refusable) → ((d : Data) → P (refusal_of which d)) → (bits : ℕ) (ds : Items)
     → ListsOnly P bits → ListsOnly P (bits_from which bits ds)

@@ -1,24 +1,21 @@
 -- Each station and fault of a plan that is read has its ranges.
-use Rattle.std.proofs.Common.{◌≡◌, ◌≢◌, ◌<◌, ◌≤◌, ◌⊎◌, inl, inr, ℕ, Bool, true, false, cond, ◌&&◌, not, ◌||◌, ◌==◌, List, [], ◌∷◌, length, Option, Some, None, All, IfSome, arith, refl, codes, option_to_list}
+use Rattle.std.proofs.Common.{◌≡◌, ◌<◌, ◌≤◌, ◌⊎◌, inl, inr, ℕ, Bool, true, false, cond, ◌&&◌, not, List, [], length, Option, Some, None, All, IfSome, arith, refl, codes, option_to_list}
 use Rattle.std.proofs.lemmas.Bool.Decides.{nat_tests}
 use Rattle.std.proofs.lemmas.List.Elements.{All-nil, All-cons}
-use Rattle.toml.specs.Data.{Data, Items, no_items, item, Members, get_member}
+use Rattle.toml.specs.Data.{Items, no_items, item, Members, get_member}
 use Rattle.bus_base.specs.Positions.{IsBetween, set_of}
-use Rattle.bus_base.specs.Flips.{IsDetectable}
-use Rattle.bus_base.specs.Fades.{IsFade}
 use Rattle.bus_base.specs.declared.samples.Part.{Part}
 use Rattle.bus_base.specs.declared.samples.Part.TheVariants.{Command, First, Second}
-use Rattle.bus_formats.specs.Accepted.{IsRefusable, HasKindRanges, HasItemRanges, HasFrameRanges, HasLoadRanges, HasTerminalRanges, HasStationRanges, HasHitRanges, HasFaultRanges, AreWords, words_sent, ListsOnly, least_cut}
+use Rattle.bus_formats.specs.Accepted.{IsRefusable, HasKindRanges, HasItemRanges, HasFrameRanges, HasLoadRanges, HasTerminalRanges, HasStationRanges, HasHitRanges, HasFaultRanges, AreWords, words_sent, least_cut}
 use Rattle.bus_formats.specs.declared.plan.Kind.{Kind}
 use Rattle.bus_formats.specs.declared.plan.Turn.{Turn}
 use Rattle.bus_plan.specs.Decode.{list_at, number_at}
-use Rattle.bus_plan.specs.DecodeItems.{receive_of, transmit_of, relay_of, mode_of, mode_sub_of, kind_of, turn_of, turns_from, turns_of, item_of, frame_of, load_of, terminal_of, station_of}
-use Rattle.bus_plan.specs.DecodeFaults.{part_of, positions_at, flips_at, fades_at, flip_of, fade_of, struck_of, after_of, hit_of, fault_of, plan_of}
-use Rattle.bus_plan.specs.Document.{number_within}
+use Rattle.bus_plan.specs.DecodeItems.{receive_of, transmit_of, relay_of, mode_of, kind_of, turn_of, turns_from, turns_of, item_of, frame_of, load_of, terminal_of, station_of}
+use Rattle.bus_plan.specs.DecodeFaults.{part_of, positions_at, flip_of, fade_of, struck_of, hit_of, fault_of, plan_of}
 use Rattle.bus_plan.specs.Positions.{pushed, may_stand, is_undetectable}
 use Rattle.bus_plan.specs.Ranges.{address_range, terminal_range, delay_range, word_range, own_sub_range, sub_range, count_range, repeat_range, frame_range, gap_range, abandon_range, code_range, attempt_range, struck_range, after_range, command_after_range, extra_range, flip_range, fade_range}
 use Rattle.bus_plan.specs.Rows.{has_text}
-use Rattle.bus_plan.specs.Rules.{refusable, unless_obeyed, is_always_obeyed}
+use Rattle.bus_plan.specs.Rules.{unless_obeyed, is_always_obeyed}
 use Rattle.bus_plan.specs.declared.ranges.Range.{Range}
 use Rattle.bus_plan.specs.declared.rows.Head.{Head}
 use Rattle.bus_plan.specs.declared.rows.Refusable.TheVariants.{Subaddresses, ModeCodes}
@@ -49,16 +46,18 @@ transmit_ranged ms = record {
 }
 
 relay_ranged : (ms : Members) → HasKindRanges (relay_of ms)
-relay_ranged ms =
-    (record {
-      address = (at terminal_range 0 (codes "from") ms (omega arith) (omega arith)).1;
-      subaddress = at sub_range 1 (codes "from_sub") ms (omega arith) (omega arith);
-      words = at count_range 1 (codes "count") ms (omega arith) (omega arith);
-    }, record {
-      address = (at address_range 0 (codes "to") ms (omega arith) (omega arith)).1;
-      subaddress = at sub_range 1 (codes "to_sub") ms (omega arith) (omega arith);
-      words = at count_range 1 (codes "count") ms (omega arith) (omega arith);
-    })
+relay_ranged ms = (
+  record {
+    address = (at terminal_range 0 (codes "from") ms (omega arith) (omega arith)).1;
+    subaddress = at sub_range 1 (codes "from_sub") ms (omega arith) (omega arith);
+    words = at count_range 1 (codes "count") ms (omega arith) (omega arith);
+  },
+  record {
+    address = (at address_range 0 (codes "to") ms (omega arith) (omega arith)).1;
+    subaddress = at sub_range 1 (codes "to_sub") ms (omega arith) (omega arith);
+    words = at count_range 1 (codes "count") ms (omega arith) (omega arith);
+  },
+)
 
 mode_ranged : (ms : Members) → HasKindRanges (mode_of ms)
 mode_ranged ms = record {

@@ -1,5 +1,5 @@
 //! Reading a plan: the rules in their order, each over the whole document before the next.
-ghost use Rattle.std.specs.Prelude.{◌≡◌, Ok, IfOk, IfErr, [], length};
+ghost use Rattle.std.specs.Prelude.{◌≡◌, Ok, IfOk, IfErr, length};
 ghost use Rattle.toml.specs.View.{table_view};
 ghost use Rattle.bus_formats.specs.Accepted.{IsAccepted};
 ghost use Rattle.bus_plan.specs.PlanOf as spec;
