@@ -1,9 +1,9 @@
 -- The plan that a document describes. A value that a rule refuses is read as some value of its range.
-use Rattle.std.specs.Prelude.{ℕ, ◌^◌, Bool, nat_lt, if◌then◌else◌, List, [], ◌∷◌, ◌++◌, length, codes, Option, Some, None, bit_or}
+use Rattle.std.specs.Prelude.{ℕ, ◌^◌, Bool, if◌then◌else◌, List, [], ◌∷◌, ◌++◌, codes, Option, Some, None, bit_or}
 use Rattle.toml.specs.Data.{Data, table, Items, no_items, item, Members, get_member}
 use Rattle.bus_base.specs.declared.samples.Channel.{Channel}
 use Rattle.bus_base.specs.declared.samples.Channel.TheVariants.{A, B}
-use Rattle.bus_plan.specs.Document.{number_or, number_in, is_text, flag_of, list_of}
+use Rattle.bus_plan.specs.Document.{number_or, number_in, flag_of, list_of}
 use Rattle.bus_plan.specs.Positions.{pushed}
 use Rattle.bus_plan.specs.Ranges.{word_range}
 use Rattle.bus_plan.specs.Rows.{has_text}

@@ -1,5 +1,5 @@
 -- The items, frames and stations that tables describe.
-use Rattle.std.specs.Prelude.{ℕ, Bool, ◌||◌, ◌==◌, nat_lt, if◌then◌else◌, List, [], ◌∷◌, ◌++◌, length, codes, Option, Some, None, is_some}
+use Rattle.std.specs.Prelude.{ℕ, Bool, ◌||◌, ◌==◌, if◌then◌else◌, List, [], codes, Option, Some, None, is_some}
 use Rattle.toml.specs.Data.{Data, Items, no_items, item, Members, get_member}
 use Rattle.bus_formats.specs.Codes.{synchronize_with_data}
 use Rattle.bus_formats.specs.Plans.{ItemData, FrameData, TerminalData, StationData}

@@ -6,7 +6,7 @@ use Rattle.bus_base.specs.declared.samples.Part.{Part}
 use Rattle.bus_base.specs.declared.samples.Part.TheVariants.{Command, First, Second}
 use Rattle.bus_formats.specs.declared.fault.Fault.{Fault}
 use Rattle.bus_formats.specs.declared.fault.Hit.{Hit}
-use Rattle.bus_formats.specs.declared.fault.Hit.TheVariants.{Flip, Cut, Extra, Fade}
+use Rattle.bus_formats.specs.declared.fault.Hit.TheVariants.{Flip, Fade}
 use Rattle.bus_plan.specs.Decode.{list_at}
 use Rattle.bus_plan.specs.DecodeFaults.{positions_at, names_undetectable}
 use Rattle.bus_plan.specs.Place.{at_number}

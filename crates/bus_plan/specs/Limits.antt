@@ -1,5 +1,5 @@
 -- What a plan has too much of.
-use Rattle.std.specs.Prelude.{ℕ, ◌*◌, Bool, nat_lt, if◌then◌else◌, List, length, sum_by, codes, Option, Some, None}
+use Rattle.std.specs.Prelude.{ℕ, ◌*◌, nat_lt, if◌then◌else◌, List, length, sum_by, codes, Option, Some, None}
 use Rattle.std.specs.List.{list_any}
 use Rattle.bus_formats.specs.Plans.{FrameData, StationData, PlanData}
 use Rattle.bus_plan.specs.declared.limits.Measure.{Measure}

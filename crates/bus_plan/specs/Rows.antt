@@ -1,5 +1,5 @@
 -- The grammar of a plan as rows: the keys of each table, and what stands there.
-use Rattle.std.specs.Prelude.{ℕ, Bool, true, false, not, ◌&&◌, ◌||◌, ◌==◌, List, [], ◌∷◌, map, Option, Some, None, is_some, bytes_eq, if◌then◌else◌, codes}
+use Rattle.std.specs.Prelude.{ℕ, Bool, true, false, not, ◌&&◌, ◌||◌, List, [], ◌∷◌, map, Option, Some, None, is_some, bytes_eq, if◌then◌else◌, codes}
 use Rattle.toml.specs.Data.{Members, get_member}
 use Rattle.bus_plan.specs.Document.{is_text, number_within}
 use Rattle.bus_plan.specs.Ranges.{version_range, address_range, terminal_range, controller_range, delay_range, word_range, own_sub_range, sub_range, count_range, repeat_range, frame_range, gap_range, abandon_range, code_range, transmit_range, attempt_range, struck_range, after_range, command_after_range, extra_range, flip_range, fade_range}

@@ -1,5 +1,5 @@
 //! Reading values of a document.
-ghost use Rattle.std.specs.Prelude.{◌≡◌, None, ◌≤◌, ◌^◌, ◌<◌, option_map, IfOk, IfErr, IfSome, Some};
+ghost use Rattle.std.specs.Prelude.{◌≡◌, None, ◌≤◌, option_map, IfOk, IfErr, IfSome, Some};
 ghost use Rattle.toml.specs.Data.{get_member};
 ghost use Rattle.toml.specs.View.{view, table_view, array_view};
 ghost use Rattle.bus_plan.specs.Document.{document_of, is_text, flag_of, list_of};
@@ -7,7 +7,7 @@ ghost use Rattle.bus_plan.specs.Document as spec;
 ghost use Rattle.bus_plan.specs.declared.document.DocumentError.TheVariants.{NotToml};
 
 use crate::ranges::Range;
-use std::alloc::{AllocError, Global};
+use std::alloc::Global;
 use toml::{Table, Value};
 
 /// Why bytes are no document, or could not be read.

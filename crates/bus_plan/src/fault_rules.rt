@@ -1,6 +1,5 @@
 //! Where a plan breaks the rules on its faults.
-ghost use Rattle.std.specs.Prelude.{◌≡◌, ◌<◌, ◌^◌, length};
-ghost use Rattle.std.specs.List.{list_any};
+ghost use Rattle.std.specs.Prelude.{◌≡◌};
 ghost use Rattle.toml.specs.View.{view, table_view, array_view};
 ghost use Rattle.bus_plan.specs.FaultRules as spec;
 

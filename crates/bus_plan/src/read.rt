@@ -1,6 +1,7 @@
 //! Reading a plan: the rules in their order, each over the whole document before the next.
-ghost use Rattle.std.specs.Prelude.{◌≡◌, Ok, IfOk, IfErr, [], length};
+ghost use Rattle.std.specs.Prelude.{◌≡◌, Ok, IfOk, IfErr, length};
 ghost use Rattle.toml.specs.View.{table_view};
+ghost use Rattle.bus_formats.specs.Accepted.{IsAccepted};
 ghost use Rattle.bus_plan.specs.PlanOf as spec;
 ghost use Rattle.bus_plan.specs.Place.{or_place};
 ghost use Rattle.bus_plan.specs.ItemRules as items;
@@ -128,13 +129,9 @@ fn plan_of(alloc: Global, table: &Table) -> Result<Plan, PlanError>
     }
 }
 
-/// The plan that a text describes (a TOML document in UTF-8), or the least numbered rule that it breaks with the first place that
-/// breaks it.
-///
-/// The time grows with the text's length, but for the search for equal faults, which grows with the square of their number. Want of
-/// memory is an answer of its own, whatever the text is.
+// The plan that a text describes, or the refusal.
 #[tactic(auto, unfolding(crate::specs::PlanOf::plan_of_bytes))]
-pub fn read_plan(alloc: Global, text: &[u8]) -> Result<Plan, PlanError>
+fn plan_of_text(alloc: Global, text: &[u8]) -> Result<Plan, PlanError>
     ensures ok { IfOk result (λ p. spec.plan_of_bytes text.now ≡ Ok p) }
     ensures refused { IfErr result (spec.IsRefusalOf (spec.plan_of_bytes text.now)) }
 {
@@ -143,4 +140,17 @@ pub fn read_plan(alloc: Global, text: &[u8]) -> Result<Plan, PlanError>
         Err(DocumentError::NotToml) => Err(PlanError::Refused(PlanRefusal::NotToml)),
         Err(DocumentError::Memory) => Err(PlanError::Memory(AllocError)),
     }
+}
+
+/// The plan that a text describes (a TOML document in UTF-8), or the least numbered rule that it breaks with the first place that
+/// breaks it. Every plan that is read is accepted: its numbers lie in their ranges, and it keeps the rules on whole plans.
+///
+/// The time grows with the text's length, but for the search for equal faults, which grows with the square of their number. Want of
+/// memory is an answer of its own, whatever the text is.
+pub fn read_plan(alloc: Global, text: &[u8]) -> Result<Plan, PlanError>
+    ensures ok { IfOk result (λ p. spec.plan_of_bytes text.now ≡ Ok p) }
+    ensures accepted { IfOk result IsAccepted }
+    ensures refused { IfErr result (spec.IsRefusalOf (spec.plan_of_bytes text.now)) }
+{
+    plan_of_text(alloc, text)
 }

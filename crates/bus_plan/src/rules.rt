@@ -1,5 +1,5 @@
 //! Where one table of a document breaks the rules on keys, kinds and ranges.
-ghost use Rattle.std.specs.Prelude.{◌≡◌, ◌+◌, ◌<◌, ◌≤◌, ◌^◌, map, length, option_map, IfSome};
+ghost use Rattle.std.specs.Prelude.{◌≡◌, ◌<◌, ◌^◌, map, length, IfSome};
 ghost use Rattle.toml.specs.View.{view, table_view, array_view, items_view};
 ghost use Rattle.bus_plan.specs.Rows.{row_of, rows_data};
 ghost use Rattle.bus_plan.specs.Rows as grammar;
