@@ -4,7 +4,7 @@ use Rattle.std.specs.Io.KnownBytes.{Appends}
 use Rattle.bus_formats.specs.declared.log.Attempt.{Attempt}
 use Rattle.bus_outside.specs.Causes.{GrowsByFront}
 use Rattle.bus_report.specs.Report.{attempt_line, attempt_lines}
-use Rattle.bus_report.proofs.Writes.{appends_then, front_then}
+use Rattle.bus_outside.proofs.Writes.{appends_then, front_then}
 
 -- the lines before a place, and the one there
 next_line : (n : ℕ) (xs : List Attempt) (i : ℕ) (d : Attempt) → i < length xs →

@@ -4,7 +4,8 @@ use Rattle.bus_formats.specs.Logs.{LogData}
 use Rattle.bus_outside.specs.Causes.{GrowsByFront, WriteAdds}
 use Rattle.bus_report.specs.Report.{end_text}
 use Rattle.bus_report.proofs.Parts.{parts}
-use Rattle.bus_report.proofs.Writes.{front_of, front_after, write_then}
+use Rattle.bus_outside.proofs.Writes.{write_then}
+use Rattle.bus_report.proofs.Writes.{front_of, front_after}
 use Rattle.bus_report.proofs.whole.report.Goals as goal
 
 pub write_attempts-requires : goal.write_attempts-requires
