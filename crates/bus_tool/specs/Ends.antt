@@ -67,3 +67,8 @@ pub record Ends (words : List (List ℕ)) (left0 left1 held0 held1 : Option (Lis
   pub memory : status ≡ 6 → (meaning words ≡ Some Run) × (held1 ≡ held0)
   -- where all is fine it is done, unless memory is wanting
   pub complete : IsFine words left0 source0 source1 sink0 sink1 → (status ≡ 0) ⊎ (status ≡ 1) ⊎ (status ≡ 6)
+
+-- the same of the command `run` alone
+abbrev pub EndsRun : (left0 left1 held0 held1 : Option (List ℕ)) (source0 source1 sink0 sink1 : ℕ) (status : ℕ) → Type 0
+EndsRun left0 left1 held0 held1 source0 source1 sink0 sink1 status =
+    (words : List (List ℕ)) → meaning words ≡ Some Run → Ends words left0 left1 held0 held1 source0 source1 sink0 sink1 status

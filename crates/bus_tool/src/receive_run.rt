@@ -12,15 +12,13 @@ use crate::receive_terminal::Terminal;
 use crate::recorder::Recorder;
 use arrayvec::ArrayVec;
 use bus_base::{Channel, Sample};
-use bus_formats::{
-    Attempt, Block, BlockEnd, Kind, RunLog, TerminalEnd, command_burst,
-};
+use bus_formats::{Attempt, Block, BlockEnd, Kind, RunLog, TerminalEnd, command_burst};
 use bus_line::Cutter;
 use bus_words::Word;
 use std::alloc::{AllocError, Global};
 
 /// A run ends when the channels were quiet for so many ticks and nothing is left to do.
-const ENDING_QUIET: u64 = 80;
+pub const ENDING_QUIET: u64 = 80;
 
 /// More ticks than the run of one message can have.
 const MOST_TICKS: u64 = 10_088;
@@ -56,8 +54,8 @@ impl Stations {
     }
 }
 
-/// Runs a message that gives words to the terminal of this address, and answers the log of the run.
-pub fn run_message(alloc: Global, address: u8, message: &Kind) -> Result<RunLog, AllocError>
+/// Runs a message that gives words to a terminal, and answers the log of the run.
+pub fn run_message(alloc: Global, message: &Kind) -> Result<RunLog, AllocError>
     requires { HasKindRanges message.now }
     ensures { IfOk result (λ log. (a : Attempt) (i : ℕ) → slice_get log.attempts i ≡ Some a → HasKindRanges a.kind) }
 {
@@ -67,7 +65,7 @@ pub fn run_message(alloc: Global, address: u8, message: &Kind) -> Result<RunLog,
     let mut recorder = Recorder::new(alloc);
     let mut stations = Stations {
         controller: Controller::new(),
-        terminal: Terminal::new(address),
+        terminal: Terminal::new(receiver_of(message)),
     };
     let mut end = 0;
     for now in 0..MOST_TICKS {
@@ -83,6 +81,14 @@ pub fn run_message(alloc: Global, address: u8, message: &Kind) -> Result<RunLog,
         }
     }
     log_of(alloc, stations, recorder, message, end)
+}
+
+// The address of the terminal that a receive message gives words to.
+fn receiver_of(message: &Kind) -> u8 {
+    match message {
+        Kind::Receive { to, .. } | Kind::Relay { to, .. } | Kind::Mode { to, .. } => *to,
+        Kind::Transmit { from, .. } => *from,
+    }
 }
 
 // The log of a run that ended after so many ticks.
@@ -163,11 +169,13 @@ fn blocks_of(alloc: Global, terminal: Terminal) -> Result<Vec<BlockEnd>, AllocEr
     match terminal.into_taken() {
         None => Ok(Vec::new(alloc)),
         Some(taken) => {
-            let blocks = vec![in alloc; BlockEnd {
-                address,
-                sub: taken.sub,
-                words: taken.words,
-            }]?;
+            let blocks = vec![in alloc;
+                BlockEnd {
+                    address,
+                    sub: taken.sub,
+                    words: taken.words,
+                },
+            ]?;
             Ok(blocks)
         }
     }

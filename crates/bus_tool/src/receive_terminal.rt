@@ -12,7 +12,7 @@ use bus_words::{Command, Flags, Status, Sync, Word};
 const LEAST_RESPONSE: u64 = 4;
 
 /// The registers before the first message.
-const CLEAR: Registers = Registers {
+pub const CLEAR: Registers = Registers {
     last: 0,
     message_error: false,
     broadcast: false,

@@ -34,7 +34,8 @@ impl Recorder {
         };
         match tick.cut {
             Cut::Slot {
-                word: Some(word), ..
+                word: Some(word),
+                ..
             } => {
                 self.valid = self.valid.saturating_add(1);
                 self.words.push(Heard {

@@ -8,7 +8,7 @@ use Rattle.bus_report.proofs.whole.write_terminal.Goals as goal
 pub returns-in_err-write-clause-bytes : goal.returns-in_err-write-clause-bytes
 returns-in_err-write-clause-bytes g c =
     MatchResult-from_err c.from_residual.result _ _ c.from_residual.ensures.0
-      (λ _. front_of _ _ _ _ (rw (c.as_bytes.ensures ∙ c.terminal_line.ensures) at c.in_err-write.ensures.bytes))
+    (λ _. front_of _ _ _ _ (rw (c.as_bytes.ensures ∙ c.terminal_line.ensures) at c.in_err-write.ensures.bytes))
 
 pub returns-clause-bytes : goal.returns-clause-bytes
 returns-clause-bytes g c =
