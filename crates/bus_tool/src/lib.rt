@@ -11,6 +11,8 @@ mod receive_terminal;
 mod recorder;
 mod refusals;
 mod run;
+#[cfg(test)]
+mod tests;
 mod tool;
 mod words;
 
