@@ -19,7 +19,7 @@ one_byte-going at byte Between h = (grind (arith, nat_tests, h), refl)
 one_byte-going at byte (Half a) h = (grind (arith, nat_tests, h), refl)
 
 -- a byte that is refused completes no tick
-one_byte-refused : (at byte : ℕ) (place : Place) → is_refused (one_byte at byte place).place ≡ true → (one_byte at byte place).tick ≡ None
+pub one_byte-refused : (at byte : ℕ) (place : Place) → is_refused (one_byte at byte place).place ≡ true → (one_byte at byte place).tick ≡ None
 one_byte-refused at byte (Refused refusal) h = refl
 one_byte-refused at byte Between h = grind (arith, nat_tests, h)
 one_byte-refused at byte (Half a) h = grind (arith, nat_tests, h)
@@ -59,7 +59,7 @@ short-step byte bytes place false came is before =
     let few : length (ticks_in (byte ∷ bytes)) ≤ suc (length bytes) = omega (arith, more, one, were.0) in
     record { few = omega (arith, few, went.0); going = λ _. (few, omega (arith, went.0)) }
 
-short : (bytes : List ℕ) → IsShort bytes
+pub short : (bytes : List ℕ) → IsShort bytes
 unfolding ticks_in place_after
 short [] = record { few = omega arith; going = λ _. (omega arith, omega arith) }
 short (byte ∷ bytes) = short-step byte bytes (place_after bytes) (is_refused (one_byte (length bytes) byte (place_after bytes)).place) refl refl (short bytes)

@@ -41,9 +41,9 @@ bursts-channel k A (shown ∷ past) =
     let found-a : Option Burst = ended_now k (on_channel A (shown ∷ past)) in
     let found-b : Option Burst = ended_now k (on_channel B (shown ∷ past)) in
     filter_map-append (burst_on A) (bursts k past) (burst_of A found-a ++ burst_of B found-b)
-      ∙ (rw (bursts-channel k A past, filter_map-append (burst_on A) (burst_of A found-a) (burst_of B found-b), burst-own A found-a, burst-other-a found-b, append-nil) refl)
+    ∙ (rw (bursts-channel k A past, filter_map-append (burst_on A) (burst_of A found-a) (burst_of B found-b), burst-own A found-a, burst-other-a found-b, append-nil) refl)
 bursts-channel k B (shown ∷ past) =
     let found-a : Option Burst = ended_now k (on_channel A (shown ∷ past)) in
     let found-b : Option Burst = ended_now k (on_channel B (shown ∷ past)) in
     filter_map-append (burst_on B) (bursts k past) (burst_of A found-a ++ burst_of B found-b)
-      ∙ (rw (bursts-channel k B past, filter_map-append (burst_on B) (burst_of A found-a) (burst_of B found-b), burst-own B found-b, burst-other-b found-a) refl)
+    ∙ (rw (bursts-channel k B past, filter_map-append (burst_on B) (burst_of A found-a) (burst_of B found-b), burst-own B found-b, burst-other-b found-a) refl)

@@ -3,3 +3,5 @@ pub mod ChannelLaws
 pub mod MessageLaws
 pub mod LineLaws
 pub mod WordLaws
+pub mod ScribeLaws
+pub mod ListLaws

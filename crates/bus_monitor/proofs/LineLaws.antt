@@ -40,15 +40,15 @@ heard-slot c (Some slot) = heard-word c slot.first slot.word
 pub heard-valid : (k : ℕ) (past : List Pair) → map heard_word (valid_now k A past ++ valid_now k B past) ≡ words_now k past
 heard-valid k past =
     map-append heard_word (valid_now k A past) (valid_now k B past)
-      ∙ (rw (heard-slot A (slot_now k (on_channel A past)), heard-slot B (slot_now k (on_channel B past))) refl)
+    ∙ (rw (heard-slot A (slot_now k (on_channel A past)), heard-slot B (slot_now k (on_channel B past))) refl)
 
 pub words-grow : (k : ℕ) (shown : Pair) (past : List Pair) →
     word_lines k (shown ∷ past) ≡ word_lines k past ++ flat_map word_line (words_now k (shown ∷ past))
 unfolding word_lines valid
 words-grow k shown past =
     ap (flat_map word_line) (map-append heard_word (valid k past) (valid_now k A (shown ∷ past) ++ valid_now k B (shown ∷ past)))
-      ∙ flat_map-append word_line (map heard_word (valid k past)) (map heard_word (valid_now k A (shown ∷ past) ++ valid_now k B (shown ∷ past)))
-      ∙ ap (λ xs. flat_map word_line (map heard_word (valid k past)) ++ flat_map word_line xs) (heard-valid k (shown ∷ past))
+    ∙ flat_map-append word_line (map heard_word (valid k past)) (map heard_word (valid_now k A (shown ∷ past) ++ valid_now k B (shown ∷ past)))
+    ∙ ap (λ xs. flat_map word_line (map heard_word (valid k past)) ++ flat_map word_line xs) (heard-valid k (shown ∷ past))
 
 -- ---- the tick in which a message closes
 
@@ -77,7 +77,7 @@ burst-at : (k tick : ℕ) (w : Option Waiting) (burst : Burst) → end_of burst 
 burst-at k tick None burst at = opened-at k tick burst (opening k burst) at
 burst-at k tick (Some w) burst at =
     all-if tick (is_answer k w burst.first) (closed_by k w (end_of burst) (answer_read k w burst)) (opened k burst (opening k burst))
-      (λ _. closed_by-at k tick (end_of burst) w (answer_read k w burst) at) (λ _. opened-at k tick burst (opening k burst) at)
+    (λ _. closed_by-at k tick (end_of burst) w (answer_read k w burst) at) (λ _. opened-at k tick burst (opening k burst) at)
 
 time-at : (tick : ℕ) (running : Bool) (w : Option Waiting) → AllAt tick (closed_in_time tick running w)
 time-at tick running None = tt
@@ -106,7 +106,7 @@ unfolding messages ended
 messages-before k [] short = tt
 messages-before k (x ∷ past) short =
     rw (messages-grow k x past short)
-      (before-grow (length past) (messages_of k past) (closed_now k (x ∷ past)) (messages-before k past short) (closed-at k x past))
+    (before-grow (length past) (messages_of k past) (closed_now k (x ∷ past)) (messages-before k past short) (closed-at k x past))
 
 -- ---- the lines of both channels
 
@@ -166,7 +166,7 @@ place-before tick l [] (other ∷ added) before at =
     let first : nat_lt l.tick other.tick ≡ true = grind (arith, nat_tests, before, at.0) in rw first refl
 place-before tick l (other ∷ xs) added before at =
     append-if (nat_lt l.tick other.tick) (l ∷ other ∷ (xs ++ added)) (l ∷ other ∷ xs) (other ∷ place_line l (xs ++ added)) (other ∷ place_line l xs) added
-      refl (ap (λ ys. other ∷ ys) (place-before tick l xs added before at))
+    refl (ap (λ ys. other ∷ ys) (place-before tick l xs added before at))
 
 -- a line that closes now comes last
 place-at : (tick : ℕ) (l : ClosedLine) (xs : List ClosedLine) → l.tick ≡ tick → LinesUpTo tick xs → place_line l xs ≡ xs ++ (l ∷ [])
@@ -189,17 +189,17 @@ both-at : (tick : ℕ) (xs added : List ClosedLine) → LinesUpTo tick xs → Li
 both-at tick xs [] upto at = sym (append-nil xs)
 both-at tick xs (l ∷ added) upto at =
     ap (λ zs. lines_of_both zs added) (place-at tick l xs at.0 upto)
-      ∙ both-at tick (xs ++ (l ∷ [])) added (upto-append tick xs (l ∷ []) upto (at.0, tt)) at.1
-      ∙ append_assoc xs (l ∷ []) added
+    ∙ both-at tick (xs ++ (l ∷ [])) added (upto-append tick xs (l ∷ []) upto (at.0, tt)) at.1
+    ∙ append_assoc xs (l ∷ []) added
 
 -- the lines that close now come after all others, A before B
 both-grow : (tick : ℕ) (xs ys a b : List ClosedLine) → LinesBefore tick xs → LinesBefore tick ys → LinesAt tick a → LinesAt tick b →
     lines_of_both (xs ++ a) (ys ++ b) ≡ (lines_of_both xs ys ++ a) ++ b
 both-grow tick xs ys a b before-x before-y at-a at-b =
     both-append (xs ++ a) ys b
-      ∙ ap (λ zs. lines_of_both zs b) (both-before tick xs ys a before-y at-a)
-      ∙ both-at tick (lines_of_both xs ys ++ a) b
-          (upto-append tick (lines_of_both xs ys) a (upto-both tick xs ys (upto-before tick xs before-x) before-y) at-a) at-b
+    ∙ ap (λ zs. lines_of_both zs b) (both-before tick xs ys a before-y at-a)
+    ∙ both-at tick (lines_of_both xs ys ++ a) b
+    (upto-append tick (lines_of_both xs ys) a (upto-both tick xs ys (upto-before tick xs before-x) before-y) at-a) at-b
 
 -- the lines of one channel, and what a tick adds to them
 lines-of : ℕ → Channel → List Pair → List ClosedLine
@@ -214,32 +214,38 @@ lines-grow : (k : ℕ) (c : Channel) (shown : Pair) (past : List Pair) → k < n
 unfolding lines-of
 lines-grow k c shown past short =
     ap (map (closed_line c)) (messages-grow k (sample_on shown c) (on_channel c past) short)
-      ∙ map-append (closed_line c) (messages_of k (on_channel c past)) (closed_now k (on_channel c (shown ∷ past)))
+    ∙ map-append (closed_line c) (messages_of k (on_channel c past)) (closed_now k (on_channel c (shown ∷ past)))
 
 before-now : (k : ℕ) (c : Channel) (past : List Pair) → k < no_response → LinesBefore (length past) (lines-of k c past)
 unfolding lines-of
 before-now k c past short =
     let P : ℕ → Type 0 = λ tick. LinesBefore tick (map (closed_line c) (messages_of k (on_channel c past))) in
     subst P (length-on_channel c past)
-      (lines-before c (length (on_channel c past)) (messages_of k (on_channel c past)) (messages-before k (on_channel c past) short))
+    (lines-before c (length (on_channel c past)) (messages_of k (on_channel c past)) (messages-before k (on_channel c past) short))
 
 at-now : (k : ℕ) (c : Channel) (shown : Pair) (past : List Pair) →
     LinesAt (length past) (map (closed_line c) (closed_now k (on_channel c (shown ∷ past))))
 at-now k c shown past =
     let P : ℕ → Type 0 = λ tick. LinesAt tick (map (closed_line c) (closed_now k (on_channel c (shown ∷ past)))) in
     subst P (length-on_channel c past)
-      (lines-at c (length (on_channel c past)) (closed_now k (on_channel c (shown ∷ past))) (closed-at k (sample_on shown c) (on_channel c past)))
+    (lines-at c (length (on_channel c past)) (closed_now k (on_channel c (shown ∷ past))) (closed-at k (sample_on shown c) (on_channel c past)))
 
 lines_now-grow : (k : ℕ) (shown : Pair) (past : List Pair) → k < no_response →
     lines_of_both (lines_on k A (shown ∷ past)) (lines_on k B (shown ∷ past))
-      ≡ (lines_of_both (lines_on k A past) (lines_on k B past) ++ map (closed_line A) (closed_now k (on_channel A (shown ∷ past))))
-        ++ map (closed_line B) (closed_now k (on_channel B (shown ∷ past)))
+    ≡ (lines_of_both (lines_on k A past) (lines_on k B past) ++ map (closed_line A) (closed_now k (on_channel A (shown ∷ past))))
+    ++ map (closed_line B) (closed_now k (on_channel B (shown ∷ past)))
 lines_now-grow k shown past short =
-    rw (lines-channel k A (shown ∷ past), lines-channel k B (shown ∷ past), lines-channel k A past, lines-channel k B past,
-        lines-grow k A shown past short, lines-grow k B shown past short)
-      (both-grow (length past) (lines-of k A past) (lines-of k B past) (map (closed_line A) (closed_now k (on_channel A (shown ∷ past))))
-        (map (closed_line B) (closed_now k (on_channel B (shown ∷ past))))
-        (before-now k A past short) (before-now k B past short) (at-now k A shown past) (at-now k B shown past))
+    rw (
+      lines-channel k A (shown ∷ past),
+      lines-channel k B (shown ∷ past),
+      lines-channel k A past,
+      lines-channel k B past,
+      lines-grow k A shown past short,
+      lines-grow k B shown past short,
+    )
+    (both-grow (length past) (lines-of k A past) (lines-of k B past) (map (closed_line A) (closed_now k (on_channel A (shown ∷ past))))
+    (map (closed_line B) (closed_now k (on_channel B (shown ∷ past))))
+    (before-now k A past short) (before-now k B past short) (at-now k A shown past) (at-now k B shown past))
 
 -- one tick more
 pub message_lines-grow : (k : ℕ) (shown : Pair) (past : List Pair) → k < no_response →
@@ -251,6 +257,6 @@ message_lines-grow k shown past short =
     let a : List ClosedLine = map (closed_line A) (closed_now k (on_channel A (shown ∷ past))) in
     let b : List ClosedLine = map (closed_line B) (closed_now k (on_channel B (shown ∷ past))) in
     ap (flat_map text) (lines_now-grow k shown past short)
-      ∙ flat_map-append text (before ++ a) b
-      ∙ ap (λ xs. xs ++ flat_map text b) (flat_map-append text before a)
-      ∙ append_assoc (flat_map text before) (flat_map text a) (flat_map text b)
+    ∙ flat_map-append text (before ++ a) b
+    ∙ ap (λ xs. xs ++ flat_map text b) (flat_map-append text before a)
+    ∙ append_assoc (flat_map text before) (flat_map text a) (flat_map text b)

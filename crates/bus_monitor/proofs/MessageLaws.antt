@@ -43,7 +43,7 @@ unfolding closes_all waits_all
 closes_all-one k w [] burst = append-nil (closes k w burst)
 closes_all-one k w (b ∷ bursts) burst =
     rw (closes_all-one k (waits k w b) bursts burst)
-      (sym (append_assoc (closes k w b) (closes_all k (waits k w b) bursts) (closes k (waits_all k (waits k w b) bursts) burst)))
+    (sym (append_assoc (closes k w b) (closes_all k (waits k w b) bursts) (closes k (waits_all k (waits k w b) bursts) burst)))
 
 waits_all-one : (k : ℕ) (w : Option Waiting) (bursts : List Burst) (burst : Burst) →
     waits_all k w (bursts ++ (burst ∷ [])) ≡ waits k (waits_all k w bursts) burst
@@ -85,7 +85,7 @@ pub fresh-waits : (k tick : ℕ) (burst : Burst) (w : Option Waiting) → end_of
 fresh-waits k tick burst None at = fresh-opens k tick burst (opening k burst) at
 fresh-waits k tick burst (Some w) at =
     fresh-if k tick (is_answer k w burst.first) (waits_after k w (end_of burst) (answer_read k w burst)) (opens k burst (opening k burst))
-      (fresh-after k tick (end_of burst) w (answer_read k w burst) at) (fresh-opens k tick burst (opening k burst) at)
+    (fresh-after k tick (end_of burst) w (answer_read k w burst) at) (fresh-opens k tick burst (opening k burst) at)
 
 -- such a message hasn't waited too long
 fresh-open : (k tick : ℕ) (w : Option Waiting) → IsFresh k tick w → k < no_response → closed_at_end k None (suc tick) w ≡ []
@@ -120,7 +120,7 @@ no-end k tick first later false true (Some w) on same begins =
     still tick w (nat_lt (w.from + no_response) tick) (not (nat_le later (w.from + no_response))) (rw now (grind (arith, nat_tests)))
 no-end k tick first later false false (Some w) on same begins =
     grows (nat_lt (w.from + no_response) tick) (nat_lt (w.from + no_response) (suc tick)) (unanswered w) (tick == w.from + no_response)
-      (λ late. (grind (arith, nat_tests, late), grind (arith, nat_tests, late))) (λ early. grind (arith, nat_tests, early))
+    (λ late. (grind (arith, nat_tests, late), grind (arith, nat_tests, late))) (λ early. grind (arith, nat_tests, early))
 
 -- ---- a tick in which a burst ends
 
@@ -157,7 +157,7 @@ at-end : (k : ℕ) (running : Option ℕ) (ticks : ℕ) (past : List Sample) →
     messages k running ticks None (ended k past) ≡ closes_all k None (ended k past) ++ closed_at_end k running ticks (waiting k past)
 at-end k running ticks past =
     messages-split k running ticks None (ended k past)
-      ∙ ap (λ w. closes_all k None (ended k past) ++ closed_at_end k running ticks w) (sym (waiting-ended k past))
+    ∙ ap (λ w. closes_all k None (ended k past) ++ closed_at_end k running ticks w) (sym (waiting-ended k past))
 
 grow-none : (k : ℕ) (x : Sample) (past : List Sample) → ended_now k (x ∷ past) ≡ None →
     messages_of k (x ∷ past) ≡ messages_of k past ++ closed_now k (x ∷ past)
@@ -167,15 +167,15 @@ grow-none k x past none =
     let running : Option ℕ = shown_first (runs k (x ∷ past)) (first_tick k (x ∷ past)) in
     let ran : Option ℕ = shown_first (runs k past) (first_tick k past) in
     let added : closed_now k (x ∷ past) ≡ closed_in_time (length past) (runs k (x ∷ past)) (waiting k past) =
-      ap (closed_with k (length past) (runs k (x ∷ past)) (waiting k past)) none in
+    ap (closed_with k (length past) (runs k (x ∷ past)) (waiting k past)) none in
     let bursts : ended k (x ∷ past) ≡ ended k past = ap (λ found. ended k past ++ option_to_list found) none ∙ append-nil (ended k past) in
     let is : messages_of k (x ∷ past) ≡ closes_all k None (ended k past) ++ closed_at_end k running (suc (length past)) (waiting k past) =
-      ap (λ bs. messages k running (suc (length past)) None bs) bursts ∙ at-end k running (suc (length past)) past in
+    ap (λ bs. messages k running (suc (length past)) None bs) bursts ∙ at-end k running (suc (length past)) past in
     glue (closes_all k None (ended k past)) (closed_at_end k ran (length past) (waiting k past))
-      (closed_at_end k running (suc (length past)) (waiting k past)) (messages_of k past) (messages_of k (x ∷ past)) (closed_now k (x ∷ past))
-      is (at-end k ran (length past) past)
-      (no-end k (length past) (first_tick k past) (first_tick k (x ∷ past)) (runs k past) (runs k (x ∷ past)) (waiting k past) on.on on.same on.begins
-        ∙ ap (λ xs. closed_at_end k ran (length past) (waiting k past) ++ xs) (sym added))
+    (closed_at_end k running (suc (length past)) (waiting k past)) (messages_of k past) (messages_of k (x ∷ past)) (closed_now k (x ∷ past))
+    is (at-end k ran (length past) past)
+    (no-end k (length past) (first_tick k past) (first_tick k (x ∷ past)) (runs k past) (runs k (x ∷ past)) (waiting k past) on.on on.same on.begins
+    ∙ ap (λ xs. closed_at_end k ran (length past) (waiting k past) ++ xs) (sym added))
 
 grow-some : (k : ℕ) (x : Sample) (past : List Sample) (burst : Burst) → k < no_response → ended_now k (x ∷ past) ≡ Some burst →
     messages_of k (x ∷ past) ≡ messages_of k past ++ closed_now k (x ∷ past)
@@ -186,28 +186,28 @@ grow-some k x past burst short some =
     let running : Option ℕ = shown_first (runs k (x ∷ past)) (first_tick k (x ∷ past)) in
     let none : running ≡ None = ap (λ now. shown_first now (first_tick k (x ∷ past))) over.over in
     let ran : shown_first (runs k past) (first_tick k past) ≡ Some burst.first =
-      ap (λ before. shown_first before (first_tick k past)) over.ran ∙ ap Some (sym over.first) in
+    ap (λ before. shown_first before (first_tick k past)) over.ran ∙ ap Some (sym over.first) in
     let added : closed_now k (x ∷ past) ≡ closed_at_burst k w burst =
-      ap (closed_with k (length past) (runs k (x ∷ past)) w) some in
+    ap (closed_with k (length past) (runs k (x ∷ past)) w) some in
     let bursts : ended k (x ∷ past) ≡ ended k past ++ (burst ∷ []) = ap (λ found. ended k past ++ option_to_list found) some in
     let waits-now : waiting k (x ∷ past) ≡ waits k w burst = waiting-step k x past burst some in
     let nothing : closed_at_end k running (suc (length past)) (waiting k (x ∷ past)) ≡ [] =
-      ap (λ r. closed_at_end k r (suc (length past)) (waiting k (x ∷ past))) none
-        ∙ ap (closed_at_end k None (suc (length past))) waits-now
-        ∙ fresh-open k (length past) (waits k w burst) (fresh-waits k (length past) burst w over.end) short in
+    ap (λ r. closed_at_end k r (suc (length past)) (waiting k (x ∷ past))) none
+    ∙ ap (closed_at_end k None (suc (length past))) waits-now
+    ∙ fresh-open k (length past) (waits k w burst) (fresh-waits k (length past) burst w over.end) short in
     let closes-now : closes_all k None (ended k (x ∷ past)) ≡ closes_all k None (ended k past) ++ closes k w burst =
-      ap (closes_all k None) bursts ∙ closes_all-one k None (ended k past) burst
-        ∙ ap (λ v. closes_all k None (ended k past) ++ closes k v burst) (sym (waiting-ended k past)) in
+    ap (closes_all k None) bursts ∙ closes_all-one k None (ended k past) burst
+    ∙ ap (λ v. closes_all k None (ended k past) ++ closes k v burst) (sym (waiting-ended k past)) in
     let is : messages_of k (x ∷ past) ≡ closes_all k None (ended k past) ++ closes k w burst =
-      at-end k running (suc (length past)) (x ∷ past)
-        ∙ ap (λ xs. closes_all k None (ended k (x ∷ past)) ++ xs) nothing
-        ∙ append-nil (closes_all k None (ended k (x ∷ past))) ∙ closes-now in
+    at-end k running (suc (length past)) (x ∷ past)
+    ∙ ap (λ xs. closes_all k None (ended k (x ∷ past)) ++ xs) nothing
+    ∙ append-nil (closes_all k None (ended k (x ∷ past))) ∙ closes-now in
     let was : messages_of k past ≡ closes_all k None (ended k past) ++ closed_at_end k (Some burst.first) (length past) w =
-      at-end k (shown_first (runs k past) (first_tick k past)) (length past) past
-        ∙ ap (λ r. closes_all k None (ended k past) ++ closed_at_end k r (length past) w) ran in
+    at-end k (shown_first (runs k past) (first_tick k past)) (length past) past
+    ∙ ap (λ r. closes_all k None (ended k past) ++ closed_at_end k r (length past) w) ran in
     glue (closes_all k None (ended k past)) (closed_at_end k (Some burst.first) (length past) w) (closes k w burst)
-      (messages_of k past) (messages_of k (x ∷ past)) (closed_now k (x ∷ past)) is was
-      (closes-split k (length past) w burst ∙ ap (λ xs. closed_at_end k (Some burst.first) (length past) w ++ xs) (sym added))
+    (messages_of k past) (messages_of k (x ∷ past)) (closed_now k (x ∷ past)) is was
+    (closes-split k (length past) w burst ∙ ap (λ xs. closed_at_end k (Some burst.first) (length past) w ++ xs) (sym added))
 
 grow-by : (k : ℕ) (x : Sample) (past : List Sample) (found : Option Burst) → k < no_response → ended_now k (x ∷ past) ≡ found →
     messages_of k (x ∷ past) ≡ messages_of k past ++ closed_now k (x ∷ past)
@@ -223,4 +223,4 @@ pub messages-channel : (k : ℕ) (c : Channel) (past : List Pair) → messages_o
 messages-channel k c past =
     let running : Option ℕ = running_on k (on_channel c past) in
     ap (λ n. messages k running n None (bursts_on k c past)) (sym (length-on_channel c past))
-      ∙ ap (messages k running (length (on_channel c past)) None) (bursts-channel k c past)
+    ∙ ap (messages k running (length (on_channel c past)) None) (bursts-channel k c past)

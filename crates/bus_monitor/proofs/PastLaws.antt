@@ -22,10 +22,10 @@ first_tick-le k [] = omega arith
 first_tick-le k (Quiet ∷ past) = let below : first_tick k past ≤ length past = first_tick-le k past in omega arith
 first_tick-le k (Plus ∷ past) =
     let below : (if runs k past then first_tick k past else length past) ≤ length past =
-      first-choice (runs k past) (first_tick k past) (length past) (first_tick-le k past) in omega arith
+    first-choice (runs k past) (first_tick k past) (length past) (first_tick-le k past) in omega arith
 first_tick-le k (Minus ∷ past) =
     let below : (if runs k past then first_tick k past else length past) ≤ length past =
-      first-choice (runs k past) (first_tick k past) (length past) (first_tick-le k past) in omega arith
+    first-choice (runs k past) (first_tick k past) (length past) (first_tick-le k past) in omega arith
 
 -- the newest burst has a tick
 pub first_tick-stopped : (k : ℕ) (past : List Sample) → 0 < stopped past → first_tick k past < stopped past
@@ -36,10 +36,10 @@ first_tick-stopped k (Quiet ∷ past) h =
     omega arith
 first_tick-stopped k (Plus ∷ past) h =
     let below : (if runs k past then first_tick k past else length past) ≤ length past =
-      first-choice (runs k past) (first_tick k past) (length past) (first_tick-le k past) in omega arith
+    first-choice (runs k past) (first_tick k past) (length past) (first_tick-le k past) in omega arith
 first_tick-stopped k (Minus ∷ past) h =
     let below : (if runs k past then first_tick k past else length past) ≤ length past =
-      first-choice (runs k past) (first_tick k past) (length past) (first_tick-le k past) in omega arith
+    first-choice (runs k past) (first_tick k past) (length past) (first_tick-le k past) in omega arith
 
 -- a tick in which no burst ends: one that ran runs on, and one that begins has this tick as its first
 pub record RunsOn (k : ℕ) (x : Sample) (past : List Sample) : Type 0 where

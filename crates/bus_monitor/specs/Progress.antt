@@ -1,5 +1,5 @@
 -- What the listings grow by in each tick. That they are the listings of the whole past is a law.
-use Rattle.std.specs.Prelude.{ℕ, ◌+◌, Bool, true, false, not, ◌==◌, ◌&&◌, if◌then◌else◌, List, [], ◌∷◌, ◌++◌, map, flat_map, length, Option, Some, None, is_some, option_to_list, option_map}
+use Rattle.std.specs.Prelude.{ℕ, ◌+◌, Bool, true, false, not, ◌==◌, ◌&&◌, if◌then◌else◌, List, [], ◌∷◌, ◌++◌, map, flat_map, length, Option, Some, None, is_some, option_to_list, codes}
 use Rattle.bus_base.specs.declared.samples.Channel.{Channel}
 use Rattle.bus_base.specs.declared.samples.Channel.TheVariants.{A, B}
 use Rattle.bus_base.specs.declared.samples.Pair.{Pair}
@@ -9,9 +9,13 @@ use Rattle.bus_line.specs.Channels.{on_channel, valid, valid_now}
 use Rattle.bus_formats.specs.Times.{no_response}
 use Rattle.bus_formats.specs.declared.log.Heard.{Heard}
 use Rattle.bus_words.specs.declared.word.Word.{Word}
-use Rattle.bus_text.specs.Texts.{word_line}
+use Rattle.bus_text.specs.Texts.{line, number, word_line}
 use Rattle.bus_monitor.specs.Messages.{Closed, Waiting, is_answer, waits, opened, opening, closed_by, answer_read, unanswered}
 use Rattle.bus_monitor.specs.Listings.{heard_word, lines_on, lines_of_both, closed_line, open_line, open_on}
+
+-- the line that ends a listing
+abbrev pub end_text : ℕ → List ℕ
+end_text ticks = line (codes "end" ++ number ticks)
 
 -- ---- words
 

@@ -13,13 +13,11 @@ pub fn words_grow_by_those_that_end()
     ensures words { (k : ℕ) (past : List Pair) → map heard_word (valid_now k A past ++ valid_now k B past) ≡ words_now k past }
     ensures lines { (k : ℕ) (shown : Pair) (past : List Pair) →
         word_lines k (shown ∷ past) ≡ word_lines k past ++ flat_map word_line (words_now k (shown ∷ past)) }
-{
-}
+{}
 
 /// A tick adds the lines of the messages that close in it to the listing of messages, A before B, at every lag below the
 /// time-out of an answer.
 pub fn messages_grow_by_those_that_close()
     ensures { (k : ℕ) (shown : Pair) (past : List Pair) → k < no_response →
         message_lines k (shown ∷ past) ≡ message_lines k past ++ (messages_now k A (shown ∷ past) ++ messages_now k B (shown ∷ past)) }
-{
-}
+{}

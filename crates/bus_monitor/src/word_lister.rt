@@ -30,6 +30,13 @@ impl WordLister {
         }
     }
 
+    /// The ticks that it heard.
+    pub(crate) fn ticks(&self) -> u64
+        ensures { (past : List Pair) → WordListerStands self.now past → result ≡ length past }
+    {
+        self.ticks
+    }
+
     /// Hears what both channels show in one tick. The valid words that end in this tick, the one on channel A first, each with
     /// its first tick (MIL-STD-1553B 4.4.1.1).
     pub fn hear(&mut self, heard: Pair) -> [Option<Heard>; 2]
@@ -51,7 +58,8 @@ fn word_in(cut: Cut, channel: Channel, tick: u64) -> Option<Heard>
 {
     match cut {
         Cut::Slot {
-            word: Some(word), ..
+            word: Some(word),
+            ..
         } => Some(Heard {
             tick: Tick(tick.saturating_sub(39)),
             channel,

@@ -16,9 +16,9 @@ hear-requires-2 c = (on_channel B c.requires.0, c.requires.1.b, rw (length-on_ch
 pub returns-clause-words : goal.returns-clause-words
 returns-clause-words c past s =
     let a : c.word_in-a.result ≡ heard_now LAG A (c.args.heard ∷ past) =
-      c.word_in-a.ensures ∙ heard-told A c.args.heard.a (on_channel A past) c.hear.result c.args.self.now.ticks (c.hear.ensures.cut (on_channel A past) s.a) (s.ticks ∙ sym (length-on_channel A past)) in
+    c.word_in-a.ensures ∙ heard-told A c.args.heard.a (on_channel A past) c.hear.result c.args.self.now.ticks (c.hear.ensures.cut (on_channel A past) s.a) (s.ticks ∙ sym (length-on_channel A past)) in
     let b : c.word_in-b.result ≡ heard_now LAG B (c.args.heard ∷ past) =
-      c.word_in-b.ensures ∙ heard-told B c.args.heard.b (on_channel B past) c.hear-2.result c.args.self.now.ticks (c.hear-2.ensures.cut (on_channel B past) s.b) (s.ticks ∙ sym (length-on_channel B past)) in
+    c.word_in-b.ensures ∙ heard-told B c.args.heard.b (on_channel B past) c.hear-2.result c.args.self.now.ticks (c.hear-2.ensures.cut (on_channel B past) s.b) (s.ticks ∙ sym (length-on_channel B past)) in
     cc
 
 pub returns-clause-stands : goal.returns-clause-stands

@@ -1,0 +1,52 @@
+-- What pieces add up to.
+use Rattle.std.proofs.Common.{◌≡◌, ℕ, suc, ◌+◌, ◌-◌, ◌≤◌, ◌<◌, min, List, [], ◌∷◌, ◌++◌, length, reverse, take, refl, ap, sym, subst, ◌∙◌, arith, length-append}
+use Rattle.std.specs.Prelude.{false, Option}
+use Rattle.std.specs.Io.KnownBytes.{Consumes}
+use Rattle.std.proofs.KnownBytes.{Consumes-trans}
+use Rattle.std.proofs.lemmas.List.{reverse-append, length-reverse, length-take}
+use Rattle.bus_base.specs.declared.samples.Pair.{Pair}
+use Rattle.bus_capture.specs.Readings.{place_after, text_limit}
+use Rattle.bus_capture.specs.Reader.{is_refused}
+use Rattle.bus_capture.proofs.ReaderLaws.{short}
+use Rattle.bus_monitor.specs.declared.listing.Listing.{Listing}
+use Rattle.bus_monitor.specs.declared.scribe.Scribe.{Scribe}
+use Rattle.bus_monitor.specs.Scribes.{Follows, ReadOn, ReadLast, IsListed, EndsSo}
+
+-- as long as no byte was refused, a byte may still come
+pub left-some : (input : List ℕ) (left : ℕ) → left + length input ≡ suc text_limit → is_refused (place_after (reverse input)) ≡ false → 0 < left
+left-some input left count going =
+    let few : length (reverse input) ≤ text_limit = ((short (reverse input)).going going).1 in
+    let same : length (reverse input) ≡ length input = length-reverse input in
+    omega (arith, few, same, count)
+
+pub room-some : (piece : List ℕ) (left room : ℕ) → length piece ≡ 4096 → 0 < left → room ≡ min left 4096 →
+    (0 < length (take room piece)) × (length (take room piece) ≤ left)
+room-some piece left room whole some is =
+    let long : length (take room piece) ≡ min room (length piece) = length-take room piece in
+    (omega (arith, long, whole, some, is), omega (arith, long, whole, some, is))
+
+module _ {L : Type 0} (stands : L → List Pair → Type 0) (lines whole : List Pair → List ℕ) (first held : Option (List ℕ)) where
+  -- a piece more
+  pub piece-more : (scribe : Scribe L) (before now later : Option (List ℕ)) (input : List ℕ) (left room count : ℕ) → Consumes before now input →
+      left + length input ≡ suc text_limit → room ≤ left → ReadOn stands lines room now later scribe (reverse input) first held count →
+      (input' : List ℕ) × Consumes before later input' × ((left - count) + length input' ≡ suc text_limit) × Follows stands lines scribe (reverse input') first held
+  piece-more scribe before now later input left room count consumed counted fits read =
+      let long : length (input ++ read.piece) ≡ length input + length read.piece = length-append input read.piece in (
+        input ++ read.piece,
+        Consumes-trans before now later input read.piece consumed read.consumed,
+        omega (arith, long, read.long, read.fits, fits, counted),
+        subst (λ bytes. Follows stands lines scribe bytes first held) (sym (reverse-append input read.piece)) read.follows,
+      )
+
+  -- the last piece
+  pub piece-last : (before now later : Option (List ℕ)) (input : List ℕ) (left room : ℕ) (listing : Listing) → Consumes before now input →
+      left + length input ≡ suc text_limit → room ≤ left → ReadLast lines whole room now later (reverse input) first held listing →
+      IsListed lines whole before later first held listing
+  piece-last before now later input left room listing consumed counted fits read =
+      let long : length (input ++ read.piece) ≡ length input + length read.piece = length-append input read.piece in
+      record {
+        input = input ++ read.piece;
+        short = omega (arith, long, read.fits, fits, counted);
+        consumed = Consumes-trans before now later input read.piece consumed read.consumed;
+        ends = subst (λ bytes. EndsSo lines whole later bytes first held listing) (sym (reverse-append input read.piece)) read.ends;
+      }

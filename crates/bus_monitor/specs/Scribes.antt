@@ -1,0 +1,126 @@
+-- What a scribe has read and written: the lines that were made of the ticks, of which the last may still be held back; and what it ends with.
+use Rattle.std.specs.Prelude.{◌≡◌, ℕ, suc, ◌<◌, ◌≤◌, ◌⊎◌, false, List, [], ◌∷◌, ◌++◌, length, reverse, Option, Some, None, Result, Ok, Err}
+use Rattle.std.specs.Io.KnownBytes.{Appends, Consumes, IsAtEnd}
+use Rattle.bus_base.specs.declared.samples.Pair.{Pair}
+use Rattle.bus_outside.specs.Causes.{GrowsByFront, Rose}
+use Rattle.bus_capture.specs.Readings.{ticks_in, place_after, answer_now, end_after, text_limit}
+use Rattle.bus_capture.specs.Reader.{ReaderStands, is_refused}
+use Rattle.bus_capture.specs.declared.refusal.CaptureRefusal.{CaptureRefusal}
+use Rattle.bus_monitor.specs.declared.listing.Listing.{Listing}
+use Rattle.bus_monitor.specs.declared.listing.Listing.TheVariants as listings
+use Rattle.bus_monitor.specs.declared.scribe.Scribe.{Scribe}
+use Rattle.bus_monitor.specs.declared.scribe.Stop.{Stop}
+use Rattle.bus_monitor.specs.declared.scribe.Stop.TheVariants.{Refused, WriteFault}
+
+-- a text was written after what the sink held first, but for a part that is held back
+pub record Owed (all text : List ℕ) (first held : Option (List ℕ)) : Type 0 where
+  pub done : List ℕ
+  pub made : all ≡ done ++ text
+  pub added : Appends first held done
+
+-- the lines of the ticks in these bytes were
+abbrev pub Written : (List Pair → List ℕ) → List ℕ → List ℕ → Option (List ℕ) → Option (List ℕ) → Type 0
+Written lines text bytes first held = Owed (lines (ticks_in bytes)) text first held
+
+-- the lines of the ticks in some of the bytes that came first, or a front of them, were written
+pub record FrontWritten (lines : List Pair → List ℕ) (bytes : List ℕ) (first held : Option (List ℕ)) : Type 0 where
+  pub later : List ℕ
+  pub before : List ℕ
+  pub parts : bytes ≡ later ++ before
+  pub front : GrowsByFront first held (lines (ticks_in before))
+
+module _ {L : Type 0} (stands : L → List Pair → Type 0) (lines : List Pair → List ℕ) (scribe : Scribe L) (bytes : List ℕ) (first held : Option (List ℕ)) where
+  -- the scribe has read these bytes, the newest first, and none was refused
+  pub record Holds : Type 0 where
+    pub reader : ReaderStands scribe.reader bytes
+    pub going : is_refused (place_after bytes) ≡ false
+    pub lister : stands scribe.lister (ticks_in bytes)
+    pub written : Written lines scribe.text bytes first held
+
+  -- and its text has room for another tick's lines
+  pub record Follows : Type 0 where
+    pub holds : Holds
+    pub room : length scribe.text ≤ 300
+
+  -- after more bytes: it went on, or a byte was refused, or a write failed
+  abbrev pub Took : {T : Type 0} → Result T Stop → Type 0
+  Took (Ok _) = Follows
+  Took (Err (Refused refusal)) = (answer_now bytes ≡ Err refusal) × Written lines scribe.text bytes first held
+  Took (Err WriteFault) = FrontWritten lines bytes first held
+
+-- a write fault has its cause in the count of the sink's faults
+pub record FaultHasCause {T : Type 0} (before now : ℕ) (result : Result T Stop) : Type 0 where
+  pub later : before ≤ now
+  pub failed : result ≡ Err WriteFault → Rose before now
+
+-- the text that was held back was written, or a front of it
+abbrev pub Closes : List ℕ → Listing → Option (List ℕ) → Option (List ℕ) → ℕ → ℕ → Listing → Type 0
+Closes all listing first held faults faults' result =
+    ((result ≡ listing) × Appends first held all)
+    ⊎ ((result ≡ listings.WriteFault) × GrowsByFront first held all × Rose faults faults')
+
+-- the text is refused by a byte, or by its end
+abbrev pub IsRefusedBy : Option (List ℕ) → List ℕ → CaptureRefusal → Type 0
+IsRefusedBy left bytes refusal = (answer_now bytes ≡ Err refusal) ⊎ (IsAtEnd left × (end_after bytes ≡ Err refusal))
+
+module _ (lines whole : List Pair → List ℕ) (left : Option (List ℕ)) (bytes : List ℕ) (first held : Option (List ℕ)) where
+  -- a front of the whole listing was written at the end of a capture
+  pub record FrontAtEnd : Type 0 where
+    pub end : IsAtEnd left
+    pub ticks : ℕ
+    pub ended : end_after bytes ≡ Ok ticks
+    pub front : GrowsByFront first held (whole (ticks_in bytes))
+
+  -- what each answer of a listing says of the bytes that were read and of the sink
+  abbrev pub EndsSo : Listing → Type 0
+  EndsSo (listings.Done n) =
+      IsAtEnd left × (end_after bytes ≡ Ok n) × Appends first held (whole (ticks_in bytes))
+  EndsSo (listings.Refused refusal) = IsRefusedBy left bytes refusal × Appends first held (lines (ticks_in bytes))
+  EndsSo listings.ReadFault = Appends first held (lines (ticks_in bytes))
+  EndsSo listings.WriteFault = FrontWritten lines bytes first held ⊎ FrontAtEnd
+
+-- a listing of what was read of the source
+pub record IsListed (lines whole : List Pair → List ℕ) (before left first held : Option (List ℕ)) (result : Listing) : Type 0 where
+  pub input : List ℕ
+  pub short : length input ≤ suc text_limit
+  pub consumed : Consumes before left input
+  pub ends : EndsSo lines whole left (reverse input) first held result
+
+-- one piece that was read and taken
+pub record ReadOn {L : Type 0} (stands : L → List Pair → Type 0) (lines : List Pair → List ℕ) (room : ℕ) (before left : Option (List ℕ))
+    (scribe : Scribe L) (bytes : List ℕ) (first held : Option (List ℕ)) (count : ℕ) : Type 0 where
+  pub piece : List ℕ
+  pub consumed : Consumes before left piece
+  pub long : length piece ≡ count
+  pub some : 0 < count
+  pub fits : count ≤ room
+  pub follows : Follows stands lines scribe (reverse piece ++ bytes) first held
+
+-- the last piece
+pub record ReadLast (lines whole : List Pair → List ℕ) (room : ℕ) (before left : Option (List ℕ)) (bytes : List ℕ) (first held : Option (List ℕ))
+    (listing : Listing) : Type 0 where
+  pub piece : List ℕ
+  pub consumed : Consumes before left piece
+  pub fits : length piece ≤ room
+  pub ends : EndsSo lines whole left (reverse piece ++ bytes) first held listing
+
+abbrev pub ReadSo : {L : Type 0} → (L → List Pair → Type 0) → (List Pair → List ℕ) → (List Pair → List ℕ) → ℕ → Option (List ℕ) → Option (List ℕ) →
+    Scribe L → List ℕ → Option (List ℕ) → Option (List ℕ) → Result ℕ Listing → Type 0
+ReadSo stands lines whole room before left scribe bytes first held (Ok count) = ReadOn stands lines room before left scribe bytes first held count
+ReadSo stands lines whole room before left scribe bytes first held (Err listing) = ReadLast lines whole room before left bytes first held listing
+
+-- a fault has its cause in the count of the source's or the sink's faults
+abbrev pub CauseOf : ℕ → ℕ → ℕ → ℕ → Listing → Type 0
+CauseOf source source' sink sink' listings.ReadFault = Rose source source'
+CauseOf source source' sink sink' listings.WriteFault = Rose sink sink'
+CauseOf source source' sink sink' _ = Unit {0}
+
+abbrev pub ReadCause : ℕ → ℕ → ℕ → ℕ → Result ℕ Listing → Type 0
+ReadCause source source' sink sink' (Ok count) = Unit {0}
+ReadCause source source' sink sink' (Err listing) = CauseOf source source' sink sink' listing
+
+-- the counts never fall
+pub record ListingHasCause (source source' sink sink' : ℕ) (result : Listing) : Type 0 where
+  pub reads : source ≤ source'
+  pub writes : sink ≤ sink'
+  pub cause : CauseOf source source' sink sink' result

@@ -1,0 +1,76 @@
+//! The listing of the valid words of a capture.
+ghost use Rattle.std.specs.Prelude.{◌≡◌, ◌≤◌, ◌<◌, ◌+◌, ◌++◌, ◌^◌, length, flat_map, option_to_list, ℕ, List};
+ghost use Rattle.bus_line.specs.declared.cutter.TheConstants.{LAG};
+ghost use Rattle.bus_text.specs.Texts.{word_line};
+ghost use Rattle.bus_monitor.specs.Listings.{word_listing};
+ghost use Rattle.bus_monitor.specs.Progress.{word_lines, end_text};
+ghost use Rattle.bus_monitor.specs.Scribes.{IsListed, ListingHasCause};
+ghost use Rattle.bus_monitor.specs.Listers.{WordListerStands};
+
+use crate::list::list;
+use crate::scribe::Lister;
+use crate::{Listing, WordLister};
+use bus_base::Pair;
+use bus_formats::Heard;
+use bus_outside::{Sink, Source};
+use bus_text::Line;
+
+/// Reads a capture to its end, in pieces of at most 4,096 bytes, and writes the listing of its valid words while it reads: a line
+/// for each, in the order of their last ticks, A before B, and then the number of ticks. It takes no memory.
+pub fn list_words<S: Source, K: Sink>(source: &mut S, sink: &mut K) -> Listing
+    ensures listed { IsListed (word_lines LAG) (word_listing LAG) (S.left source.old) (S.left source.new) (K.held sink.old) (K.held sink.new) result }
+    ensures cause { ListingHasCause (S.faults source.old) (S.faults source.new) (K.faults sink.old) (K.faults sink.new) result }
+{
+    list(WordLister::new(), source, sink)
+}
+
+impl Lister for WordLister {
+    ghost stands = { WordListerStands };
+
+    ghost lines = { word_lines LAG };
+
+    ghost whole = { word_listing LAG };
+
+    fn list(&mut self, shown: Pair, text: &mut Line) {
+        let [a, b] = self.hear(shown);
+        add_word(a, text);
+        add_word(b, text);
+    }
+
+    fn finish(&self, text: &mut Line) {
+        add_end(self.ticks(), text);
+    }
+}
+
+fn add_word(heard: Option<Heard>, text: &mut Line)
+    requires { length text.old ≤ 500 }
+    ensures text { text.new ≡ text.old ++ flat_map word_line (option_to_list heard) }
+    ensures grows { length text.new ≤ length text.old + 40 }
+{
+    if let Some(heard) = heard {
+        add_line(heard, text);
+    }
+}
+
+fn add_line(heard: Heard, text: &mut Line)
+    requires { length text.old ≤ 500 }
+    ensures text { text.new ≡ text.old ++ word_line heard }
+    ensures grows { length text.new ≤ length text.old + 40 }
+{
+    text.text("word");
+    text.number(heard.tick.0);
+    text.channel(heard.channel);
+    text.sync(heard.word.sync);
+    text.word(heard.word.bits);
+    text.end();
+}
+
+/// Adds the line that ends a listing, with the number of ticks.
+pub(crate) fn add_end(ticks: u64, text: &mut Line)
+    requires { length text.old ≤ 500 }
+    ensures { text.new ≡ text.old ++ end_text ticks }
+{
+    text.text("end");
+    text.number(ticks);
+    text.end();
+}
