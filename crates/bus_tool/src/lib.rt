@@ -5,6 +5,7 @@ mod built;
 mod channel;
 mod idle;
 mod input;
+mod listing;
 mod receive_controller;
 mod receive_run;
 mod receive_terminal;

@@ -1,7 +1,10 @@
 //! The lines with which an input is refused.
-ghost use Rattle.std.specs.Prelude.{◌≡◌};
+
+ghost use Rattle.std.specs.Prelude.{◌≡◌, ◌≤◌, ◌++◌, length, codes};
+ghost use Rattle.bus_text.specs.Texts.{line, number};
 ghost use Rattle.bus_tool.specs.Due as spec;
 
+use bus_capture::CaptureRefusal;
 use bus_plan::PlanRefusal;
 use bus_text::Line;
 
@@ -18,6 +21,30 @@ pub fn refusal_line(refusal: &PlanRefusal) -> Line
         line.text(" ");
         line.text(place.as_str());
     }
+    line.end();
+    line
+}
+
+/// The line of a refused capture.
+pub fn capture_refusal_line(refusal: CaptureRefusal) -> Line
+    ensures { result ≡ spec.capture_refusal_line refusal }
+{
+    match refusal {
+        CaptureRefusal::Header(offset) => offset_line(" header", offset),
+        CaptureRefusal::Byte(offset) => offset_line(" byte", offset),
+        CaptureRefusal::HalfTick(offset) => offset_line(" half-tick", offset),
+        CaptureRefusal::Long(offset) => offset_line(" long", offset),
+    }
+}
+
+fn offset_line(name: &str, offset: u64) -> Line
+    requires { length name.now ≤ 20 }
+    ensures { result ≡ line (codes "capture refused" ++ (name.now ++ number offset)) }
+{
+    let mut line = Line::new();
+    line.text("capture refused");
+    line.text(name);
+    line.number(offset);
     line.end();
     line
 }

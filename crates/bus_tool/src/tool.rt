@@ -1,8 +1,12 @@
 //! The top call.
-ghost use Rattle.std.specs.Prelude.{◌≡◌, map, string_bytes};
+ghost use Rattle.std.specs.Prelude.{◌≡◌, ◌≤◌, map, string_bytes};
+ghost use Rattle.bus_tool.specs.Answers.{WroteDue};
+ghost use Rattle.bus_tool.specs.Due.{words_refused};
 ghost use Rattle.bus_tool.specs.Ends.{Ends, EndsRun};
+ghost use Rattle.bus_tool.specs.Meaning.{meaning};
 
 use crate::input::{Stop, read_input};
+use crate::listing::decode;
 use crate::run::answer;
 use crate::words::{Command, command_of};
 use bus_outside::{Sink, Source};
@@ -11,23 +15,32 @@ use std::alloc::Global;
 /// Does what the words ask for, and answers the program's status.
 ///
 /// The words are the command line without the program's name. 0: the input was read to its end and the whole text was written. 2: the
-/// words have no meaning, and nothing was read. 3: the input was read and is refused. 4: the source failed, and nothing was written.
-/// 5: the sink failed, and a front of the text that was due was written. 6: memory ran out, and nothing was written.
+/// words have no meaning, and nothing was read. 3: the input is refused; a plan was read whole, a capture to its first wrong byte, and
+/// the lines of the ticks before it were written. 4: the source failed; a listing's lines so far were written, and nothing else. 5: the
+/// sink failed, and a front of the text that was due was written. 6: memory ran out, and nothing was written; never for a listing.
 pub fn bus_tool<S: Source, K: Sink>(
     alloc: Global,
     words: &[String],
     source: &mut S,
     sink: &mut K,
 ) -> u8
-    ensures { Ends (map string_bytes words.now) (S.left source.old) (S.left source.new) (K.held sink.old) (K.held sink.new)
-        (S.faults source.old) (S.faults source.new) (K.faults sink.old) (K.faults sink.new) result }
+    ensures { Ends (S.left source.old) (S.left source.new) (K.held sink.old) (K.held sink.new)
+        (S.faults source.old) (S.faults source.new) (K.faults sink.old) (K.faults sink.new) result (meaning (map string_bytes words.now)) }
 {
     match command_of(words) {
-        None => match sink.write(b"words refused\n") {
-            Ok(()) => 2,
-            Err(_) => 5,
-        },
+        None => refuse_words(sink),
         Some(Command::Run) => run(alloc, source, sink),
+        Some(Command::Decode) => decode(source, sink),
+    }
+}
+
+fn refuse_words<K: Sink>(sink: &mut K) -> u8
+    ensures wrote { WroteDue (K.held sink.old) (K.held sink.new) (K.faults sink.old) (K.faults sink.new) result 2 words_refused }
+    ensures later { K.faults sink.old ≤ K.faults sink.new }
+{
+    match sink.write(b"words refused\n") {
+        Ok(()) => 2,
+        Err(_) => 5,
     }
 }
 

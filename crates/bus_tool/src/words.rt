@@ -1,12 +1,14 @@
 //! What the words of the command line mean.
 ghost use Rattle.std.specs.Prelude.{◌≡◌, map, string_bytes};
-ghost use Rattle.bus_tool.specs.Meaning.{meaning};
+ghost use Rattle.bus_tool.specs.Meaning.{meaning, command_named as named};
 
 /// What the program is asked to do.
 #[derive(Clone, Copy, Debug, PartialEq, Eq)]
 pub enum Command {
     /// Read a plan, run it, and write the report.
     Run,
+    /// Read a capture, and write the listing of its valid words.
+    Decode,
 }
 
 /// The command that the words mean, the program's name left out; none where they have no meaning. It takes no memory.
@@ -14,7 +16,19 @@ pub fn command_of(words: &[String]) -> Option<Command>
     ensures { result ≡ meaning (map string_bytes words.now) }
 {
     match words {
-        [word] if word.as_str() == "run" => Some(Command::Run),
+        [word] => command_named(word.as_str()),
         _ => None,
     }
+}
+
+fn command_named(word: &str) -> Option<Command>
+    ensures { result ≡ named word.now }
+{
+    if word == "run" {
+        return Some(Command::Run);
+    }
+    if word == "decode" {
+        return Some(Command::Decode);
+    }
+    None
 }
