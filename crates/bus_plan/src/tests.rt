@@ -191,20 +191,17 @@ const PLAN: &str =
 #[test]
 fn reads_a_plan(rt: HostRuntime) -> Result<(), Fail> {
     match read_plan(rt.alloc(), PLAN.as_bytes()) {
-        Ok(plan) => {
-            assert_eq!(rt; plan.start, 5);
-            assert_eq!(rt; plan.stations.len(), 2);
-            assert_eq!(rt; plan.stations[0].terminal.delay, 12);
-            assert_eq!(rt; plan.stations[0].terminal.no_receive, 0x2000_0002);
-            assert_eq!(rt; plan.stations[0].repeat, 3);
-            assert!(rt;
-                matches!(
-                    plan.stations[1].terminal.subsystem,
-                    Some(SubsystemKind::Tally)
-                )
-            );
-            assert!(rt; matches!(plan.faults[0].hit, Hit::Fade { word: 2, .. }));
-        }
+        Ok(plan) => match (plan.stations.as_slice(), plan.faults.as_slice()) {
+            ([first, second], [fault]) => {
+                assert_eq!(rt; plan.start, 5);
+                assert_eq!(rt; first.terminal.delay, 12);
+                assert_eq!(rt; first.terminal.no_receive, 0x2000_0002);
+                assert_eq!(rt; first.repeat, 3);
+                assert!(rt; matches!(second.terminal.subsystem, Some(SubsystemKind::Tally)));
+                assert!(rt; matches!(fault.hit, Hit::Fade { word: 2, .. }));
+            }
+            _ => assert!(rt; false),
+        },
         Err(_) => assert!(rt; false),
     }
     Ok(())
