@@ -5,3 +5,4 @@ pub mod LineLaws
 pub mod WordLaws
 pub mod ScribeLaws
 pub mod ListLaws
+pub mod OpeningLaws
