@@ -20,3 +20,9 @@ pub fn dead_ticks(gap: u16) -> u16
 {
     gap.saturating_sub(TICKS_IN_WORDS)
 }
+
+/// The constants are those of the definitions.
+pub fn times_are_defined()
+    ensures quiet { LEAST_QUIET ≡ spec.least_quiet }
+    ensures response { NO_RESPONSE ≡ spec.no_response }
+{}

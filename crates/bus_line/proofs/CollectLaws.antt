@@ -1,17 +1,14 @@
 -- The words of the slots of the burst that runs, with one tick more; what an end and a slot tell of them.
-use Rattle.std.proofs.Common.{◌≡◌, ℕ, zero, suc, ◌+◌, ◌-◌, ◌*◌, ◌/◌, ◌%◌, ◌<◌, ◌≤◌, true, false, not, ◌==◌, ◌&&◌, ◌||◌, nat_lt, List, [], ◌∷◌, ◌++◌, length, Some, None, Option, IsSome, refl, sym, ap, ◌∙◌, subst, arith, inl, inr, ◌⊎◌}
+use Rattle.std.proofs.Common.{◌≡◌, ℕ, suc, ◌+◌, ◌-◌, ◌*◌, ◌/◌, ◌<◌, ◌≤◌, true, false, not, ◌==◌, ◌&&◌, ◌||◌, nat_lt, List, [], ◌∷◌, ◌++◌, length, Some, None, Option, refl, sym, ap, ◌∙◌, subst, arith, inl, inr}
 use Rattle.std.proofs.lemmas.Bool.{cases_lt, cases_eq, cases_Bool, or_parts, not-false}
 use Rattle.std.proofs.lemmas.Bool.Decides.{nat_tests}
 use Rattle.bus_base.specs.Samples.{is_quiet}
 use Rattle.bus_base.specs.declared.samples.Sample.{Sample}
 use Rattle.bus_base.specs.declared.samples.Sample.TheVariants.{Plus, Minus, Quiet}
-use Rattle.bus_words.specs.declared.word.Word.{Word}
-use Rattle.bus_line.specs.declared.cutter.Cut.{Cut}
-use Rattle.bus_line.specs.declared.cutter.Cut.TheVariants as cuts
-use Rattle.bus_line.specs.Past.{Burst, Slot, quiet, stopped, runs, first_tick, slot_word, newest_burst, burst_from, ended_now, slot_number, slot_between, slot_now, slot_of, rest_of}
+use Rattle.bus_line.specs.Past.{Burst, Slot, quiet, stopped, runs, first_tick, slot_word, newest_burst, burst_from, ended_now, slot_number, slot_between, slot_now, slot_of}
 use Rattle.bus_line.specs.Bursts.{IsSlotNow}
-use Rattle.bus_line.specs.Cutting.{cut_of, cut_now, running_slots, Collects, Closes, Fills}
-use Rattle.bus_line.proofs.PastLaws.{quiet-le, quiet-pulse, stopped-more, stopped-pulse, runs-parts, runs-from, rests-parts, rests-from, runs-pulse, rests-more, first_tick-runs, first_tick-begins, first_tick-lt}
+use Rattle.bus_line.specs.Cutting.{cut_now, running_slots, Collects, Closes, Fills}
+use Rattle.bus_line.proofs.PastLaws.{quiet-le, stopped-more, stopped-pulse, runs-parts, runs-from, rests-from, runs-pulse, rests-more, first_tick-runs, first_tick-begins, first_tick-lt}
 use Rattle.bus_line.proofs.TickLaws.{quiet-sample}
 use Rattle.bus_line.proofs.SlotLaws.{burst-first, burst-ticks, slots-count, slots-none, slots-same, slots-next, burst_from-more, word-before}
 use Rattle.bus_line.proofs.CutNow.{now-idle, now-pending, now-ended, now-begins, now-pulse, ended-more, ended-none}
@@ -32,7 +29,7 @@ slots-before k x past on =
     let below : quiet past ≤ length past = quiet-le past in
     let less : first_tick k past < stopped past = first_tick-lt k past (runs-parts k past on).0 in
     running-on k past on ∙ ap (λ (b : Burst). b.slots)
-      (sym (burst_from-more x past (first_tick k past) (stopped past - first_tick k past) (omega (arith, less, below))))
+    (sym (burst_from-more x past (first_tick k past) (stopped past - first_tick k past) (omega (arith, less, below))))
 
 slots-with : (k : ℕ) (x : Sample) (past : List Sample) → is_quiet x ≡ false → runs k past ≡ true →
     running_slots k (x ∷ past) ≡ (burst_from (x ∷ past) (first_tick k past) (suc (length past) - first_tick k past)).slots
@@ -46,9 +43,9 @@ collects-quiet k past = elim (cases_Bool (runs k past)) [
   | inr off ↦ rw (now-idle k past off) (running-off k (Quiet ∷ past) (rests-more k past off) ∙ sym (running-off k past off))
   | inl on ↦ elim (cases_eq (quiet past) k) [
     | inl all ↦ rw (now-ended k past on all) (
-        sym (ap length (running-on k past on) ∙ slots-count past (first_tick k past) (stopped past - first_tick k past)),
-        running-off k (Quiet ∷ past) (rests-from k (Quiet ∷ past) (inr (omega (arith, all)))),
-      )
+      sym (ap length (running-on k past on) ∙ slots-count past (first_tick k past) (stopped past - first_tick k past)),
+      running-off k (Quiet ∷ past) (rests-from k (Quiet ∷ past) (inr (omega (arith, all)))),
+    )
     | inr few ↦ (
         let less : quiet past < k = (let most = (runs-parts k past on).1 in omega (arith, few, most)) in
         let more : stopped (Quiet ∷ past) ≡ stopped past = stopped-more past in
@@ -72,16 +69,16 @@ collects-pulse k x past small pulse on =
       | inl same ↦ (
           let number : slot_between (stopped past - first_tick k past) (suc (length past) - first_tick k past) ≡ None = grind (arith, nat_tests, same) in
           rw (now-pulse k x past None pulse on number)
-            (new ∙ slots-same (x ∷ past) (first_tick k past) (stopped past - first_tick k past) (suc (length past) - first_tick k past) same ∙ sym old))
+          (new ∙ slots-same (x ∷ past) (first_tick k past) (stopped past - first_tick k past) (suc (length past) - first_tick k past) same ∙ sym old))
       | inr other ↦ (
           let next : (suc (length past) - first_tick k past) / 40 ≡ suc ((stopped past - first_tick k past) / 40) = omega (arith, other, small, few, less, below) in
           let last : (suc (length past) - first_tick k past) / 40 - 1 ≡ (stopped past - first_tick k past) / 40 = omega (arith, next) in
           let number : slot_between (stopped past - first_tick k past) (suc (length past) - first_tick k past) ≡ Some ((stopped past - first_tick k past) / 40) =
-            grind (arith, nat_tests, next, last) in
+          grind (arith, nat_tests, next, last) in
           rw (now-pulse k x past (Some ((stopped past - first_tick k past) / 40)) pulse on number) (
             sym (ap length old ∙ slots-count (x ∷ past) (first_tick k past) (stopped past - first_tick k past)),
             new ∙ slots-next (x ∷ past) (first_tick k past) (stopped past - first_tick k past) (suc (length past) - first_tick k past) next
-              ∙ ap (λ ws. ws ++ slot_word (x ∷ past) (first_tick k past) ((stopped past - first_tick k past) / 40) ∷ []) (sym old),
+                ∙ ap (λ ws. ws ++ slot_word (x ∷ past) (first_tick k past) ((stopped past - first_tick k past) / 40) ∷ []) (sym old),
           ))
     ]
 
@@ -91,9 +88,9 @@ collects-begins k x past pulse off =
     let first : first_tick k (x ∷ past) ≡ length past = first_tick-begins k x past off pulse in
     let now : stopped (x ∷ past) ≡ suc (length past) = stopped-pulse x past pulse in
     rw (now-begins k x past pulse off)
-      (running-on k (x ∷ past) (runs-pulse k x past pulse)
-        ∙ slots-none (x ∷ past) (first_tick k (x ∷ past)) (stopped (x ∷ past) - first_tick k (x ∷ past)) (omega (arith, first, now))
-        ∙ sym (running-off k past off))
+    (running-on k (x ∷ past) (runs-pulse k x past pulse)
+    ∙ slots-none (x ∷ past) (first_tick k (x ∷ past)) (stopped (x ∷ past) - first_tick k (x ∷ past)) (omega (arith, first, now))
+    ∙ sym (running-off k past off))
 
 -- each sample's cut adds to the words collected, at every lag below a slot
 pub cut-collects : (k : ℕ) (x : Sample) (past : List Sample) → k ≤ 39 → Collects (cut_now k (x ∷ past)) (running_slots k past) (running_slots k (x ∷ past))
@@ -118,7 +115,7 @@ closes-quiet k past burst all some h =
     let ticks : (newest_burst k past).ticks ≡ stopped past - first_tick k past = burst-ticks past (first_tick k past) (stopped past - first_tick k past) in
     let first : (newest_burst k past).first ≡ first_tick k past = burst-first past (first_tick k past) (stopped past - first_tick k past) in
     let count : length (newest_burst k past).slots ≡ (stopped past - first_tick k past) / 40 =
-      slots-count past (first_tick k past) (stopped past - first_tick k past) in
+    slots-count past (first_tick k past) (stopped past - first_tick k past) in
     rw same record {
       ran = on;
       first = first;
@@ -159,7 +156,7 @@ fills-at k x past i small pulse on found =
     let less : first_tick k past < stopped past = first_tick-lt k past (runs-parts k past on).0 in
     let first : first_tick k (x ∷ past) ≡ first_tick k past = first_tick-runs k x past on in
     let count : length (running_slots k past) ≡ (stopped past - first_tick k past) / 40 =
-      ap length (running-on k past on) ∙ slots-count past (first_tick k past) (stopped past - first_tick k past) in
+    ap length (running-on k past on) ∙ slots-count past (first_tick k past) (stopped past - first_tick k past) in
     record {
       ran = on;
       first = omega (arith, first, count, parts.0, parts.1, few, small, less, below);
@@ -172,7 +169,7 @@ fills-at k x past i small pulse on found =
     }
 
 fills-number : (k : ℕ) (x : Sample) (past : List Sample) (slot : Slot) (number : Option ℕ) → ((i : ℕ) → number ≡ Some i →
-      Fills k x past record { first = first_tick k (x ∷ past) + 40 * i; word = slot_word (x ∷ past) (first_tick k (x ∷ past)) i }) →
+    Fills k x past record { first = first_tick k (x ∷ past) + 40 * i; word = slot_word (x ∷ past) (first_tick k (x ∷ past)) i }) →
     slot_of (x ∷ past) (first_tick k (x ∷ past)) number ≡ Some slot → Fills k x past slot
 fills-number k x past slot None all h = cc
 fills-number k x past slot (Some i) all h =
@@ -188,6 +185,6 @@ slot-fills k x past slot small h = elim (cases_Bool (is_quiet x || not (runs k p
       let parts = or_parts (is_quiet x) (not (runs k past)) holds in
       let number : slot_number k (x ∷ past) ≡ slot_between (stopped past - first_tick k past) (suc (length past) - first_tick k past) = rw holds refl in
       fills-number k x past slot (slot_between (stopped past - first_tick k past) (suc (length past) - first_tick k past))
-        (λ i found. fills-at k x past i small parts.0 (not-false (runs k past) parts.1) found)
-        (sym (ap (slot_of (x ∷ past) (first_tick k (x ∷ past))) number) ∙ h))
+      (λ i found. fills-at k x past i small parts.0 (not-false (runs k past) parts.1) found)
+      (sym (ap (slot_of (x ∷ past) (first_tick k (x ∷ past))) number) ∙ h))
 ]

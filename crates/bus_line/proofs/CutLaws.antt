@@ -1,20 +1,19 @@
 -- One tick more, for a cutter that stands for a past, at every lag.
-use Rattle.std.proofs.Common.{◌≡◌, ℕ, zero, suc, ◌+◌, ◌-◌, ◌*◌, ◌/◌, ◌%◌, ◌<◌, ◌≤◌, Bool, true, false, List, [], ◌∷◌, ◌++◌, reverse, length, take, drop, set, nat_le, Some, None, Option, refl, sym, ap, ◌∙◌, arith, inl, inr, ◌⊎◌}
+use Rattle.std.proofs.Common.{◌≡◌, ℕ, zero, suc, ◌+◌, ◌-◌, ◌*◌, ◌/◌, ◌%◌, ◌<◌, ◌≤◌, true, false, List, [], ◌∷◌, ◌++◌, length, take, set, nat_le, Some, None, Option, refl, sym, ap, ◌∙◌, arith, inl, inr, ◌⊎◌}
 use Rattle.std.proofs.lemmas.Bool.{cases_eq}
-use Rattle.std.proofs.lemmas.List.FromFn.{length-map-range_with_len}
 use Rattle.std.proofs.lemmas.Bool.Decides.{nat_tests}
-use Rattle.std.proofs.lemmas.List.{take_more_set, reverse-append, length-set, take_all, length-reverse, length-take}
+use Rattle.std.proofs.lemmas.List.{take_more_set, length-set, take_all}
 use Rattle.bus_base.specs.Samples.{is_quiet}
 use Rattle.bus_base.specs.declared.samples.Sample.{Sample}
-use Rattle.bus_base.specs.declared.samples.Sample.TheVariants.{Plus, Minus, Quiet}
+use Rattle.bus_base.specs.declared.samples.Sample.TheVariants.{Quiet}
 use Rattle.bus_line.specs.declared.cutter.Cut.TheVariants as cuts
 use Rattle.bus_line.specs.declared.cutter.Cutter.{Cutter}
 use Rattle.bus_line.proofs.SlotLaws.{reverse-more, newest-from, word-before}
 use Rattle.bus_line.proofs.CutNow.{now-idle, now-pending, now-ended, now-begins, now-pulse}
 use Rattle.bus_line.specs.Spelling.{word_in}
-use Rattle.bus_line.specs.Past.{quiet, samples_from, quiet_ticks, stopped, runs, first_tick, slot_word, newest_burst, burst_from, ended_now, slot_number, slot_between}
+use Rattle.bus_line.specs.Past.{quiet, samples_from, quiet_ticks, stopped, runs, first_tick, slot_word, slot_between}
 use Rattle.bus_line.specs.Cutting.{Follows, CutterStands, begun, cut_of, cut_now, newest_samples}
-use Rattle.bus_line.proofs.PastLaws.{quiet-le, stopped-quiet, quiet-pulse, stopped-more, stopped-pulse, runs-parts, runs-from, rests-parts, rests-from, runs-pulse, rests-more, first_tick-runs, first_tick-begins, first_tick-lt}
+use Rattle.bus_line.proofs.PastLaws.{quiet-pulse, stopped-more, runs-parts, rests-from, runs-pulse, rests-more, first_tick-runs, first_tick-begins}
 
 -- the samples kept, with one more
 kept-more : (m : ℕ) (samples past : List Sample) (x : Sample) → m < length samples → take m samples ≡ newest_samples m past →

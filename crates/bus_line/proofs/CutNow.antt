@@ -1,18 +1,15 @@
 -- What becomes known with one tick more, case by case. For every lag.
-use Rattle.std.proofs.Common.{◌≡◌, ℕ, zero, suc, ◌+◌, ◌-◌, ◌*◌, ◌/◌, ◌%◌, ◌<◌, ◌≤◌, true, false, not, ◌==◌, ◌&&◌, ◌||◌, nat_lt, List, [], ◌∷◌, ◌++◌, length, Some, None, Option, refl, sym, ap, ◌∙◌, subst, arith, inl, inr, ◌⊎◌}
-use Rattle.std.proofs.lemmas.Bool.{cases_lt, cases_eq, cases_Bool}
+use Rattle.std.proofs.Common.{◌≡◌, ℕ, suc, ◌-◌, ◌/◌, ◌%◌, ◌<◌, ◌≤◌, true, false, ◌==◌, ◌&&◌, nat_lt, List, [], ◌∷◌, length, Some, None, Option, refl, sym, ap, ◌∙◌, arith, inl, inr, ◌⊎◌}
+use Rattle.std.proofs.lemmas.Bool.{cases_Bool}
 use Rattle.std.proofs.lemmas.Bool.Decides.{nat_tests}
 use Rattle.bus_base.specs.Samples.{is_quiet}
 use Rattle.bus_base.specs.declared.samples.Sample.{Sample}
 use Rattle.bus_base.specs.declared.samples.Sample.TheVariants.{Plus, Minus, Quiet}
-use Rattle.bus_words.specs.declared.word.Word.{Word}
-use Rattle.bus_line.specs.declared.cutter.Cut.{Cut}
 use Rattle.bus_line.specs.declared.cutter.Cut.TheVariants as cuts
-use Rattle.bus_line.specs.Past.{Burst, quiet, stopped, runs, first_tick, slot_word, newest_burst, burst_from, ended_now, slot_number, slot_between, slot_now, slot_of, rest_of}
-use Rattle.bus_line.specs.Cutting.{cut_of, cut_now, running_slots, Tells, Collects}
-use Rattle.bus_line.proofs.PastLaws.{quiet-le, quiet-pulse, stopped-more, stopped-pulse, runs-parts, runs-from, rests-parts, rests-from, runs-pulse, rests-more, first_tick-runs, first_tick-begins, first_tick-lt}
-use Rattle.bus_line.proofs.TickLaws.{quiet-sample}
-use Rattle.bus_line.proofs.SlotLaws.{burst-ticks, slots-count, slots-none, slots-same, slots-next, burst_from-more}
+use Rattle.bus_line.specs.Past.{Burst, quiet, stopped, runs, first_tick, newest_burst, ended_now, slot_number, slot_between, slot_of, rest_of}
+use Rattle.bus_line.specs.Cutting.{cut_of, cut_now, Tells}
+use Rattle.bus_line.proofs.PastLaws.{quiet-le, quiet-pulse, stopped-more, runs-parts, rests-parts, first_tick-runs, first_tick-lt}
+use Rattle.bus_line.proofs.SlotLaws.{burst-ticks, slots-count, burst_from-more}
 
 -- ---- the cases
 
@@ -37,7 +34,7 @@ ended-more k past on all =
     let below : quiet past ≤ length past = quiet-le past in
     let less : first_tick k past < stopped past = first_tick-lt k past some in
     let same : newest_burst k (Quiet ∷ past) ≡ newest_burst k past =
-      rw more (burst_from-more Quiet past (first_tick k past) (stopped past - first_tick k past) (omega (arith, less, below))) in
+    rw more (burst_from-more Quiet past (first_tick k past) (stopped past - first_tick k past) (omega (arith, less, below))) in
     let found : ended_now k (Quiet ∷ past) ≡ Some (newest_burst k (Quiet ∷ past)) = grind (arith, nat_tests, all, more, some) in
     found ∙ ap Some same
 
@@ -46,7 +43,7 @@ pub now-ended : (k : ℕ) (past : List Sample) → runs k past ≡ true → quie
 unfolding cut_now
 now-ended k past on all =
     rw (ended-more k past on all)
-      (rw (slots-count past (first_tick k past) (stopped past - first_tick k past), burst-ticks past (first_tick k past) (stopped past - first_tick k past)) refl)
+    (rw (slots-count past (first_tick k past) (stopped past - first_tick k past), burst-ticks past (first_tick k past) (stopped past - first_tick k past)) refl)
 
 pub ended-none : (k : ℕ) (x : Sample) (past : List Sample) → is_quiet x ≡ false → ended_now k (x ∷ past) ≡ None
 ended-none k x past pulse = let none : quiet (x ∷ past) ≡ 0 = quiet-pulse x past pulse in grind (arith, nat_tests, none)

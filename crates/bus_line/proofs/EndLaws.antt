@@ -1,12 +1,10 @@
 -- Where what began at a tick has its end, and what was heard between two ticks, by tick numbers. For every lag.
-use Rattle.std.proofs.Common.{◌≡◌, ◌≢◌, ℕ, zero, suc, min, ◌+◌, ◌-◌, ◌<◌, ◌≤◌, true, false, not, ◌&&◌, ◌||◌, nat_lt, nat_le, List, [], ◌∷◌, ◌++◌, length, Some, None, Option, refl, sym, ap, ◌∙◌, arith, inl, inr, ◌⊎◌}
-use Rattle.std.proofs.lemmas.Bool.{cases_lt, cases_eq, cases_order, cases_Bool, lt-ltb, le-ltb}
+use Rattle.std.proofs.Common.{◌≡◌, ℕ, suc, min, ◌+◌, ◌-◌, ◌<◌, ◌≤◌, true, false, nat_lt, nat_le, List, [], ◌∷◌, ◌++◌, length, Some, None, Option, refl, sym, ap, ◌∙◌, arith, inl, inr, ◌⊎◌}
+use Rattle.std.proofs.lemmas.Bool.{cases_lt, cases_order, lt-ltb, le-ltb}
 use Rattle.std.proofs.lemmas.Bool.Decides.{nat_tests}
-use Rattle.bus_base.specs.Samples.{is_quiet}
 use Rattle.bus_base.specs.declared.samples.Sample.{Sample}
-use Rattle.bus_base.specs.declared.samples.Sample.TheVariants.{Quiet}
-use Rattle.bus_line.specs.Past.{Burst, quiet, stopped, runs, first_tick, newest_burst, ended_now, end_of, end_since, end_or_now}
-use Rattle.bus_line.specs.Bursts.{IsQuietAt, IsHeardAt, IsBurst, IsEndedNow, IsEndSince}
+use Rattle.bus_line.specs.Past.{Burst, quiet, stopped, runs, first_tick, ended_now, end_of, end_since, end_or_now}
+use Rattle.bus_line.specs.Bursts.{IsHeardAt, IsBurst, IsEndedNow, IsEndSince}
 use Rattle.bus_line.proofs.PastLaws.{quiet-le, runs-parts, first_tick-lt}
 use Rattle.bus_line.proofs.TickLaws.{at-more, quiet-since, heard-last}
 use Rattle.bus_line.proofs.BurstLaws.{newest-burst}
@@ -57,13 +55,16 @@ none-now : (k : ℕ) (x : Sample) (past : List Sample) (a : ℕ) → a ≤ lengt
     (end_since k past a ≡ None) × (min (quiet (x ∷ past)) (suc (length past) - a) ≤ k)
 none-now k x past a late h = elim (cases-option (end_since k past a)) [
   | inr found ↦ (let some : None ≡ Some found.0 = sym h ∙ end_since-stays k x past a found.0 found.1 in cc)
-  | inl none ↦ (none, elim (cases_lt k (min (quiet (x ∷ past)) (suc (length past) - a))) [
-    | inr few ↦ few
-    | inl many ↦ (
-        let holds : nat_le (suc k) (min (quiet (x ∷ past)) (suc (length past) - a)) ≡ true = grind (arith, nat_tests, many) in
-        let some : None ≡ Some (length past - k) = sym h ∙ end_since-now k x past a late ∙ (rw (none, holds) refl) in
-        cc)
-  ])
+  | inl none ↦ (
+    none,
+    elim (cases_lt k (min (quiet (x ∷ past)) (suc (length past) - a))) [
+      | inr few ↦ few
+      | inl many ↦ (
+          let holds : nat_le (suc k) (min (quiet (x ∷ past)) (suc (length past) - a)) ≡ true = grind (arith, nat_tests, many) in
+          let some : None ≡ Some (length past - k) = sym h ∙ end_since-now k x past a late ∙ (rw (none, holds) refl) in
+          cc)
+    ],
+  )
 ]
 
 -- where no end was found, no k + 1 ticks in a row from a on were quiet
@@ -92,7 +93,7 @@ is-end-now k x past a late none many = record {
   known = omega (arith, many);
   quiet = λ t p q. quiet-since (x ∷ past) t (omega (arith, many, p));
   first = λ u p q. let w = end_since-none k past a u none p (omega (arith, q)) in
-    (w.0, w.1, w.2, λ h. w.3 (sym (at-more x past w.0 (omega (arith, w.2, q))) ∙ h));
+      (w.0, w.1, w.2, λ h. w.3 (sym (at-more x past w.0 (omega (arith, w.2, q))) ∙ h));
 }
 
 -- what is found is the end by tick numbers
@@ -141,8 +142,8 @@ end_since-found k past a e is = elim (cases-option (end_since k past a)) [
 -- in any k + 1 ticks from one of a burst's ticks on, one isn't quiet
 burst-heard : (k : ℕ) (past : List Sample) (p n u : ℕ) → IsBurst k past p n → p ≤ u → u < p + n → (t : ℕ) × (u ≤ t) × (t ≤ u + k) × IsHeardAt past t
 burst-heard k past p n u b low high = elim (cases_lt (u + k) (p + n)) [
-  | inl inner ↦ b.bridged u low inner
-  | inr edge ↦ (p + n - 1, omega (arith, high), omega (arith, edge), b.ends (p + n - 1) (omega (arith, high)))
+  | inl inner ↦ b.stretch.bridged u low inner
+  | inr edge ↦ (p + n - 1, omega (arith, high), omega (arith, edge), b.stretch.ends (p + n - 1) (omega (arith, high)))
 ]
 
 -- what began with a burst has its end with the burst's, once that is known

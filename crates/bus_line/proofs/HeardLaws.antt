@@ -1,10 +1,10 @@
 -- What was heard between two ticks, and from a tick on, by tick numbers.
-use Rattle.std.proofs.Common.{◌≡◌, ℕ, suc, ◌<◌, ◌≤◌, true, false, not, ◌&&◌, ◌||◌, nat_lt, List, [], ◌∷◌, length, Some, None, Option, refl, sym, ap, ◌∙◌, arith, inl, inr, ◌⊎◌}
-use Rattle.std.proofs.lemmas.Bool.{cases_lt, cases_eq, cases_order, cases_Bool, and_parts, and_from, or_cases, or_left, or_right, not-true, not_from_false, false≢true, lt-ltb, le-ltb, ltb-true}
+use Rattle.std.proofs.Common.{◌≡◌, ℕ, ◌<◌, ◌≤◌, true, false, not, ◌&&◌, ◌||◌, nat_lt, List, [], ◌∷◌, length, Some, None, refl, sym, ap, ◌∙◌, arith, inl, inr, ◌⊎◌}
+use Rattle.std.proofs.lemmas.Bool.{cases_lt, cases_order, cases_Bool, and_parts, and_from, or_cases, or_left, or_right, not-true, not_from_false, false≢true, lt-ltb, le-ltb, ltb-true}
 use Rattle.bus_base.specs.Samples.{is_quiet}
 use Rattle.bus_base.specs.declared.samples.Sample.{Sample}
 use Rattle.bus_line.specs.Past.{heard_within, first_heard, heard_or_now}
-use Rattle.bus_line.specs.Bursts.{sample_at, IsQuietAt, IsHeardAt, IsFirstHeard}
+use Rattle.bus_line.specs.Bursts.{IsQuietAt, IsHeardAt, IsFirstHeard}
 use Rattle.bus_line.proofs.EndLaws.{cases-option}
 use Rattle.bus_line.proofs.TickLaws.{at-past, at-now, at-more, heard-sample, pulse-sample, quiet-sample}
 
@@ -58,8 +58,8 @@ heard_within-from (x ∷ past) a b t low high heard =
           let at : t ≡ length past = omega (arith, inside, now) in
           let here : IsHeardAt (x ∷ past) (length past) = rw at at heard in
           or_left (not (is_quiet x) && nat_lt (length past) b) (heard_within past a b)
-            (and_from (not (is_quiet x)) (nat_lt (length past) b) (not_from_false (is_quiet x) (pulse-sample x (λ e. here (at-now x past ∙ e))))
-              (lt-ltb (length past) b (omega (arith, at, high)))))
+          (and_from (not (is_quiet x)) (nat_lt (length past) b) (not_from_false (is_quiet x) (pulse-sample x (λ e. here (at-now x past ∙ e))))
+          (lt-ltb (length past) b (omega (arith, at, high)))))
     ]
 
 -- ---- from a tick on

@@ -1,20 +1,17 @@
 -- A burst is a longest stretch, and no tick is in two. For every lag.
-use Rattle.std.proofs.Common.{◌≡◌, ℕ, suc, ◌+◌, ◌-◌, ◌<◌, ◌≤◌, List, length, refl, sym, ◌∙◌, arith, inl, inr, ◌⊎◌}
+use Rattle.std.proofs.Common.{◌≡◌, ℕ, suc, ◌+◌, ◌-◌, ◌<◌, ◌≤◌, List, length, arith, inl, inr}
 use Rattle.std.proofs.lemmas.Bool.{cases_lt, cases_eq, cases_order}
 use Rattle.bus_base.specs.declared.samples.Sample.{Sample}
-use Rattle.bus_line.specs.Bursts.{IsQuietAt, IsHeardAt, IsBurst, IsStretch, IsLongest}
+use Rattle.bus_line.specs.Bursts.{IsHeardAt, IsBurst, IsStretch, IsLongest}
 use Rattle.bus_line.proofs.TickLaws.{at-past, cases-heard}
 use Rattle.bus_line.proofs.BurstLaws.{not-earlier}
-
-pub stretch-of : (k : ℕ) (past : List Sample) (p n : ℕ) → IsBurst k past p n → IsStretch k past p n
-stretch-of k past p n b = record { some = b.some; inside = b.inside; begins = b.begins; ends = b.ends; bridged = b.bridged }
 
 -- a stretch that holds a burst begins where it does
 same-begin : (k : ℕ) (past : List Sample) (p n q m : ℕ) → IsBurst k past p n → IsStretch k past q m → q ≤ p → p + n ≤ q + m → q ≡ p
 same-begin k past p n q m b s low high = elim (cases_eq q p) [
   | inl same ↦ same
   | inr other ↦ absurd (elim (cases_lt (q + k) p) [
-    | inl far ↦ (let w = s.bridged (p - suc k) (omega arith) (omega (arith, b.some)) in w.3 (b.before w.0 (omega arith) (omega arith)))
+    | inl far ↦ (let w = s.bridged (p - suc k) (omega arith) (omega (arith, b.stretch.some)) in w.3 (b.before w.0 (omega arith) (omega arith)))
     | inr near ↦ s.begins (b.before q (omega arith) (omega arith))
   ])
 ]
@@ -31,7 +28,7 @@ same-end k past p n q m b s low high = elim (cases_eq (p + n) (q + m)) [
 
 pub burst-longest : (k : ℕ) (past : List Sample) (p n : ℕ) → IsBurst k past p n → IsLongest k past p n
 burst-longest k past p n b = record {
-  stretch = stretch-of k past p n b;
+  stretch = b.stretch;
   alone = λ q m s low high.
       let begin : q ≡ p = same-begin k past p n q m b s low high in
       let end : p + n ≡ q + m = same-end k past p n q m b s low high in
@@ -72,11 +69,7 @@ longer-after k past p n t s late near within heard = record {
 
 pub longest-burst : (k : ℕ) (past : List Sample) (p n : ℕ) → IsLongest k past p n → IsBurst k past p n
 longest-burst k past p n l = record {
-  some = l.stretch.some;
-  inside = l.stretch.inside;
-  begins = l.stretch.begins;
-  ends = l.stretch.ends;
-  bridged = l.stretch.bridged;
+  stretch = l.stretch;
   before = λ t early near. elim (cases-heard past t) [
     | inl quiet ↦ quiet
     | inr heard ↦ absurd (
@@ -106,6 +99,6 @@ burst-alone k past p n q m t b a low high low' high' =
       ]
     ] in
     elim (cases_lt (p + n) (q + m)) [
-      | inl less ↦ (let end : p + n ≡ q + m = same-end k past p n q m b (stretch-of k past q m a) (omega (arith, begin)) (omega arith) in (begin, omega (arith, begin, end)))
-      | inr more ↦ (let end : q + m ≡ p + n = same-end k past q m p n a (stretch-of k past p n b) (omega (arith, begin)) more in (begin, omega (arith, begin, end)))
+      | inl less ↦ (let end : p + n ≡ q + m = same-end k past p n q m b a.stretch (omega (arith, begin)) (omega arith) in (begin, omega (arith, begin, end)))
+      | inr more ↦ (let end : q + m ≡ p + n = same-end k past q m p n a b.stretch (omega (arith, begin)) more in (begin, omega (arith, begin, end)))
     ]

@@ -1,42 +1,53 @@
 -- What `Past` looks up is what a reader finds by tick numbers.
-use Rattle.std.proofs.Common.{◌≡◌, ◌≢◌, ℕ, zero, suc, ◌+◌, ◌-◌, ◌*◌, ◌/◌, ◌<◌, ◌≤◌, true, false, List, [], ◌∷◌, length, Some, None, Option, refl, sym, ◌∙◌, arith, inl, inr, ◌⊎◌, IfSome, ◌==◌, ◌&&◌, ◌||◌, not, nat_lt}
+use Rattle.std.proofs.Common.{◌≡◌, ℕ, suc, ◌+◌, ◌-◌, ◌*◌, ◌/◌, ◌<◌, ◌≤◌, true, false, List, [], ◌∷◌, length, Some, None, Option, refl, sym, ◌∙◌, arith, inl, inr, IfSome, ◌==◌, ◌&&◌, ◌||◌, not, nat_lt}
 use Rattle.std.proofs.lemmas.Bool.{cases_lt, cases_Bool, or_parts, not-false}
 use Rattle.std.proofs.lemmas.Bool.Decides.{nat_tests}
 use Rattle.bus_base.specs.Samples.{is_quiet}
 use Rattle.bus_base.specs.declared.samples.Sample.{Sample}
-use Rattle.bus_base.specs.declared.samples.Sample.TheVariants.{Plus, Minus, Quiet}
 use Rattle.bus_line.specs.Past.{Burst, quiet, stopped, runs, first_tick, burst_from, newest_burst, ended_now, slot_number, slot_between}
-use Rattle.bus_line.specs.Bursts.{IsQuietAt, IsBurst, IsEndedNow, IsSlotNow, EndsAgree, SlotsAgree}
-use Rattle.bus_line.proofs.PastLaws.{quiet-le, stopped-quiet, stopped-pulse, runs-parts, first_tick-lt, first_tick-runs, first_tick-begins, quiet-pulse}
+use Rattle.bus_line.specs.Bursts.{IsQuietAt, IsEndedNow, IsSlotNow, EndsAgree, SlotsAgree}
+use Rattle.bus_line.proofs.PastLaws.{quiet-le, stopped-quiet, stopped-pulse, runs-parts, first_tick-lt, first_tick-runs, first_tick-begins}
 use Rattle.bus_line.proofs.TickLaws.{at-now, at-more, quiet-since, heard-last, pulse-sample}
-use Rattle.bus_line.proofs.BurstLaws.{one-burst, newest-burst, newest-is, burst-stopped}
+use Rattle.bus_line.proofs.BurstLaws.{newest-burst, newest-is, burst-stopped}
 use Rattle.bus_line.proofs.SlotLaws.{burst-ticks, burst-first}
 
 -- ---- ends
 
-ended-is-now : (k : ℕ) (past : List Sample) → quiet past ≡ suc k → 0 < stopped past → IsEndedNow k past (newest_burst k past).first (newest_burst k past).ticks
-ended-is-now k past q some =
+newest-ends : (k : ℕ) (past : List Sample) → quiet past ≡ suc k → 0 < stopped past → IsEndedNow k past (newest_burst k past).first (newest_burst k past).ticks
+newest-ends k past q some =
     let below : quiet past ≤ length past = quiet-le past in
     let less : first_tick k past < stopped past = first_tick-lt k past some in
     let first : (newest_burst k past).first ≡ first_tick k past = burst-first past (first_tick k past) (stopped past - first_tick k past) in
     let ticks : (newest_burst k past).ticks ≡ stopped past - first_tick k past = burst-ticks past (first_tick k past) (stopped past - first_tick k past) in
     rw (first, ticks) record { burst = newest-burst k past some; now = omega (arith, q, less, below) }
 
-ended-found : (k : ℕ) (past : List Sample) → IfSome (ended_now k past) (λ burst. IsEndedNow k past burst.first burst.ticks)
+-- a burst is the one that is cut out at its own ticks
+cut-again : (past : List Sample) (p n : ℕ) → burst_from past p n ≡ burst_from past (burst_from past p n).first (burst_from past p n).ticks
+unfolding burst_from
+cut-again past p n = refl
+
+ended-found : (k : ℕ) (past : List Sample) →
+    IfSome (ended_now k past) (λ burst. IsEndedNow k past burst.first burst.ticks × (burst ≡ burst_from past burst.first burst.ticks))
 ended-found k past = elim (cases_Bool ((quiet past == suc k) && nat_lt 0 (stopped past))) [
-  | inl holds ↦ rw holds (ended-is-now k past (grind (arith, nat_tests, holds)) (grind (arith, nat_tests, holds)))
+  | inl holds ↦ rw holds (
+    newest-ends k past (grind (arith, nat_tests, holds)) (grind (arith, nat_tests, holds)),
+    cut-again past (first_tick k past) (stopped past - first_tick k past),
+  )
   | inr fails ↦ rw fails tt
 ]
 
 pub ended-known : (k : ℕ) (past : List Sample) (burst : Burst) → ended_now k past ≡ Some burst → IsEndedNow k past burst.first burst.ticks
-ended-known k past burst h = let found = ended-found k past in rw h at found
+ended-known k past burst h = let found = ended-found k past in (rw h at found).0
+
+pub ended-is : (k : ℕ) (past : List Sample) (burst : Burst) → ended_now k past ≡ Some burst → burst ≡ burst_from past burst.first burst.ticks
+ended-is k past burst h = let found = ended-found k past in (rw h at found).1
 
 pub ended-all : (k : ℕ) (past : List Sample) (p n : ℕ) → IsEndedNow k past p n → ended_now k past ≡ Some (burst_from past p n)
 ended-all k past p n e =
     let stop : stopped past ≡ p + n = burst-stopped k past p n e.burst (λ t a b. e.burst.after t a (omega (arith, e.now))) in
     let whole : stopped past + quiet past ≡ length past = stopped-quiet past in
     let q : quiet past ≡ suc k = omega (arith, e.now, stop, whole) in
-    let some : 0 < stopped past = omega (arith, e.burst.some, stop) in
+    let some : 0 < stopped past = omega (arith, e.burst.stretch.some, stop) in
     let is = newest-is k past p n e.burst (sym stop) in
     let holds : ended_now k past ≡ Some (newest_burst k past) = grind (arith, nat_tests, q, some) in
     holds ∙ (rw (sym is.1, sym is.0) refl)
@@ -94,7 +105,7 @@ slot-found k (x ∷ past) = elim (cases_Bool (is_quiet x || not (runs k past))) 
   | inl fails ↦ rw fails tt
   | inr holds ↦ (let parts = or_parts (is_quiet x) (not (runs k past)) holds in
       rw holds (some-found k x past (slot_between (stopped past - first_tick k past) (suc (length past) - first_tick k past))
-        (λ i e. slot-is-now k x past i parts.0 (not-false (runs k past) parts.1) e)))
+      (λ i e. slot-is-now k x past i parts.0 (not-false (runs k past) parts.1) e)))
 ]
 
 -- where the ticks before the newest are quiet from e on, the stop before it is no later
@@ -104,7 +115,7 @@ stopped-before x past e within after = elim (cases_lt e (stopped past)) [
   | inl high ↦ absurd (
       let below : quiet past ≤ length past = quiet-le past in
       heard-last past (stopped past - 1) (omega (arith, high))
-        (sym (at-more x past (stopped past - 1) (omega (arith, high, below))) ∙ after (stopped past - 1) (omega (arith, high)) (omega (arith, high, below))))
+      (sym (at-more x past (stopped past - 1) (omega (arith, high, below))) ∙ after (stopped past - 1) (omega (arith, high)) (omega (arith, high, below))))
 ]
 
 -- two slots don't become whole at once: so many quiet ticks stand in no burst
@@ -112,14 +123,14 @@ slot-last : (k : ℕ) (past : List Sample) (p i : ℕ) → k ≤ 39 → (s : IsS
 slot-last k past p i small s = elim (cases_lt s.ticks (40 * suc (suc i))) [
   | inl short ↦ short
   | inr long ↦ absurd (
-      let w = s.burst.bridged (p + 40 * i + 39) (omega arith) (omega (arith, long, small)) in
+      let w = s.burst.stretch.bridged (p + 40 * i + 39) (omega arith) (omega (arith, long, small)) in
       w.3 (s.since w.0 w.1 (omega (arith, w.2, s.now, long, small))))
 ]
 
 pub slot-all : (k : ℕ) (past : List Sample) (p i : ℕ) → k ≤ 39 → IsSlotNow k past p i → slot_number k past ≡ Some i
-slot-all k [] p i small s = absurd (omega (arith, s.now, s.burst.some))
+slot-all k [] p i small s = absurd (omega (arith, s.now, s.burst.stretch.some))
 slot-all k (x ∷ past) p i small s =
-    let last = s.burst.ends (length past) (omega (arith, s.now)) in
+    let last = s.burst.stretch.ends (length past) (omega (arith, s.now)) in
     let pulse : is_quiet x ≡ false = pulse-sample x (λ e. last (at-now x past ∙ e)) in
     let now : stopped (x ∷ past) ≡ suc (length past) = stopped-pulse x past pulse in
     let is = newest-is k (x ∷ past) p s.ticks s.burst (omega (arith, s.now, now)) in
@@ -131,8 +142,8 @@ slot-all k (x ∷ past) p i small s =
           let stop : stopped past ≤ p + 40 * i + 39 = stopped-before x past (p + 40 * i + 39) (omega (arith, s.whole, s.now)) s.since in
           let short : s.ticks < 40 * suc (suc i) = slot-last k (x ∷ past) p i small s in
           let number : slot_between (stopped past - first_tick k past) (suc (length past) - first_tick k past) ≡ Some i =
-            between-is (stopped past - first_tick k past) (suc (length past) - first_tick k past) i
-              (omega (arith, is.0, first, stop)) (omega (arith, is.0, first, s.whole, s.now)) (omega (arith, is.0, first, short, s.now)) in
+          between-is (stopped past - first_tick k past) (suc (length past) - first_tick k past) i
+          (omega (arith, is.0, first, stop)) (omega (arith, is.0, first, s.whole, s.now)) (omega (arith, is.0, first, short, s.now)) in
           rw (pulse, on) number)
     ]
 

@@ -28,7 +28,7 @@ Tells k past (cuts.Slot i word) =
     (ended_now k past ≡ None) × (slot_now k past ≡ Some record { first = first_tick k past + 40 * i; word = word })
 Tells k past (cuts.Ended slots rest) =
     (ended_now k past ≡ Some (newest_burst k past)) × (slot_now k past ≡ None)
-      × (length (newest_burst k past).slots ≡ slots) × (rest_of (newest_burst k past) ≡ rest)
+    × (length (newest_burst k past).slots ≡ slots) × (rest_of (newest_burst k past) ≡ rest)
 
 -- what a cut does to the words of the whole slots of the burst that runs
 abbrev pub Collects : Cut → List (Option Word) → List (Option Word) → Type 0
@@ -50,6 +50,9 @@ pub record Fills (k : ℕ) (x : Sample) (past : List Sample) (slot : Slot) : Typ
   pub whole : slot.first + 40 ≤ length (x ∷ past)
   pub late : length (x ∷ past) ≤ slot.first + 40 + k
   pub word : IsSome slot.word → slot.first + 40 ≡ length (x ∷ past)
+
+-- ---- For which pasts a cutter stands. Nothing below has to be believed: a new cutter stands for quiet ticks, each sample keeps it, and
+-- what `hear` answers is right for every past for which it stood.
 
 -- the samples of the newest n ticks, in their order
 abbrev pub newest_samples : ℕ → List Sample → List Sample

@@ -1,4 +1,4 @@
-ghost use Rattle.std.specs.Prelude.{◌≡◌, ℕ, ◌<◌, ◌^◌, false, List, ◌∷◌, length};
+ghost use Rattle.std.specs.Prelude.{◌≡◌, ℕ, ◌<◌, ◌≤◌, ◌^◌, ◌↔◌, IsTrue, false, List, ◌∷◌, length};
 ghost use Rattle.bus_base.specs.declared.samples.Sample.{Sample};
 ghost use Rattle.bus_base.specs.Samples.{is_quiet};
 ghost use Rattle.bus_line.specs.Past.{quiet_ticks};
@@ -63,18 +63,25 @@ impl Cutter {
         }
     }
 
+    // Whether a burst runs.
+    fn runs(&self) -> bool
+        ensures { IsTrue result ↔ (self.now.quiet ≤ LAG) }
+    {
+        self.quiet <= LAG
+    }
+
     fn hear_quiet(&mut self) -> Cut
         requires { (past : List Sample) × Follows LAG self.old past × (length past < 2 ^ 60) }
         ensures cut { (past : List Sample) → Follows LAG self.old past → result ≡ cut_now LAG (Sample.Quiet ∷ past) }
         ensures stands { (past : List Sample) → Follows LAG self.old past → Follows LAG self.new (Sample.Quiet ∷ past) }
     {
-        if self.quiet > LAG {
+        if !self.runs() {
             return Cut::Nothing;
         }
         let place = self.rest + self.quiet;
         self.samples[usize::from(place % 40)] = Sample::Quiet;
         self.quiet += 1;
-        if self.quiet <= LAG {
+        if self.runs() {
             return Cut::Nothing;
         }
         Cut::Ended {
@@ -90,7 +97,7 @@ impl Cutter {
         ensures cut { (past : List Sample) → Follows LAG self.old past → result ≡ cut_now LAG (sample ∷ past) }
         ensures stands { (past : List Sample) → Follows LAG self.old past → Follows LAG self.new (sample ∷ past) }
     {
-        if self.quiet > LAG {
+        if !self.runs() {
             self.begin(sample);
             return Cut::Nothing;
         }
@@ -121,5 +128,94 @@ impl Cutter {
         self.slots = 0;
         self.rest = 1;
         self.quiet = 0;
+    }
+}
+
+#[cfg(test)]
+mod tests {
+    use super::*;
+    use crate::spelling::spell;
+    use bus_words::Sync;
+
+    const COMMAND: Word = Word {
+        sync: Sync::Command,
+        bits: 0x2822,
+    };
+
+    const DATUM: Word = Word {
+        sync: Sync::Datum,
+        bits: 0,
+    };
+
+    // A command word, so many quiet ticks, a data word, and quiet ticks.
+    fn two_words(quiet: usize) -> [Sample; 88]
+        requires { quiet ≤ 8 }
+    {
+        let mut samples = [Sample::Quiet; 88];
+        samples[..40].copy_from_slice(&spell(COMMAND));
+        samples[40 + quiet..80 + quiet].copy_from_slice(&spell(DATUM));
+        samples
+    }
+
+    // What becomes known, with its ticks, up to four times.
+    fn cuts(samples: &[Sample]) -> [(usize, Cut); 4]
+        requires { length samples.now < 2 ^ 60 }
+    {
+        let mut cuts = [(0, Cut::Nothing); 4];
+        let mut count = 0;
+        let mut cutter = Cutter::new();
+        for (tick, sample) in samples.iter().enumerate() {
+            let cut = cutter.hear(*sample);
+            if cut != Cut::Nothing && count < cuts.len() {
+                cuts[count] = (tick, cut);
+                count += 1;
+            }
+        }
+        cuts
+    }
+
+    // One burst of 83 ticks, the second slot of which is no word; the end is known in tick 86.
+    #[test]
+    fn three_quiet_ticks_are_bridged(rt: HostRuntime) {
+        let word = Some(COMMAND);
+        let want = [
+            (39, Cut::Slot { index: 0, word }),
+            (
+                79,
+                Cut::Slot {
+                    index: 1,
+                    word: None,
+                },
+            ),
+            (86, Cut::Ended { slots: 2, rest: 3 }),
+            (0, Cut::Nothing),
+        ];
+        assert_eq!(rt; cuts(&two_words(3)), want);
+    }
+
+    // Two bursts of a word each; the ends are known in ticks 43 and 87.
+    #[test]
+    fn four_quiet_ticks_end_a_burst(rt: HostRuntime) {
+        let (first, second) = (Some(COMMAND), Some(DATUM));
+        let ended = Cut::Ended { slots: 1, rest: 0 };
+        let want = [
+            (
+                39,
+                Cut::Slot {
+                    index: 0,
+                    word: first,
+                },
+            ),
+            (43, ended),
+            (
+                83,
+                Cut::Slot {
+                    index: 0,
+                    word: second,
+                },
+            ),
+            (87, ended),
+        ];
+        assert_eq!(rt; cuts(&two_words(4)), want);
     }
 }

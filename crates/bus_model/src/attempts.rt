@@ -1,10 +1,11 @@
 //! How the run of a plan goes on: one attempt after the other. Laws alone, each the contract of an empty function.
 
-ghost use Rattle.std.specs.Prelude.{◌≡◌, ℕ, suc, Bool, List, ◌∷◌, length, Some, None};
+ghost use Rattle.std.specs.Prelude.{◌≡◌, ℕ, ◌≤◌, List, ◌∷◌, length, Some, None};
+ghost use Rattle.bus_formats.specs.Plans.{PlanData};
 ghost use Rattle.bus_formats.specs.declared.fault.Fault.{Fault};
 ghost use Rattle.bus_formats.specs.declared.log.Attempt.{Attempt};
 ghost use Rattle.bus_model.specs.Memory.{TimedLoad};
-ghost use Rattle.bus_model.specs.Run.{Run, Next, next_item, attempt, attempts_after};
+ghost use Rattle.bus_model.specs.Run.{Run, Next, next_item, attempt, attempts_after, most_attempts, run_of};
 
 /// While the station that holds control has an item left, an attempt adds one record before those of the attempts so far, which stay: so the
 /// number of an attempt, by which faults name it, is its place in the log.
@@ -17,4 +18,11 @@ pub fn an_attempt_adds_its_record()
 pub fn a_finished_run_stays()
     ensures { (k : ℕ) (loads : List TimedLoad) (faults : List Fault) (run : Run) (n : ℕ) → next_item run ≡ None →
         attempts_after k loads faults n run ≡ run }
+{}
+
+/// The run of a plan comes to an end: at last the station that holds control has no item left, after no more attempts than one for each item
+/// and one for each entry of its retry list.
+pub fn a_run_comes_to_an_end()
+    ensures ends { (k : ℕ) (loads : List TimedLoad) (plan : PlanData) → next_item (run_of k loads plan) ≡ None }
+    ensures few { (k : ℕ) (loads : List TimedLoad) (plan : PlanData) → length (run_of k loads plan).attempts ≤ most_attempts plan }
 {}

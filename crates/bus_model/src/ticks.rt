@@ -14,9 +14,9 @@ ghost use Rattle.bus_model.specs.World.{world, trace, drives_after};
 pub fn the_world_grows_by_one_tick()
     ensures shows { (k : ℕ) (plan : PlanData) (loads : List TimedLoad) (outside : List OutsideTake) (absent : List ℕ) (t : ℕ) →
         world k plan loads outside absent (suc t)
-            ≡ shown plan.faults (drives_after k plan loads outside absent (world k plan loads outside absent t)
-                ∷ (trace k plan loads outside absent t).driven)
-            ∷ world k plan loads outside absent t }
+        ≡ shown plan.faults (drives_after k plan loads outside absent (world k plan loads outside absent t)
+        ∷ (trace k plan loads outside absent t).driven)
+        ∷ world k plan loads outside absent t }
     ensures shown_so_long { (k : ℕ) (plan : PlanData) (loads : List TimedLoad) (outside : List OutsideTake) (absent : List ℕ) (t : ℕ) →
         length (world k plan loads outside absent t) ≡ t }
     ensures driven_so_long { (k : ℕ) (plan : PlanData) (loads : List TimedLoad) (outside : List OutsideTake) (absent : List ℕ) (t : ℕ) →

@@ -4,7 +4,7 @@ use Rattle.std.specs.Io.KnownBytes.{Appends}
 use Rattle.bus_formats.specs.declared.log.Attempt.{Attempt}
 use Rattle.bus_outside.specs.Causes.{GrowsByFront}
 use Rattle.bus_report.specs.Report.{attempt_line, attempt_lines}
-use Rattle.bus_report.proofs.Writes.{appends_then, front_then}
+use Rattle.bus_outside.proofs.Writes.{appends_then, front_then}
 
 -- the lines before a place, and the one there
 next_line : (n : ℕ) (xs : List Attempt) (i : ℕ) (d : Attempt) → i < length xs →
@@ -38,7 +38,7 @@ pub numbered_front : (a b c : Option (List ℕ)) (xs : List Attempt) (i : ℕ) (
 numbered_front a b c xs i d piece within is h k =
     let next : GrowsByFront b c (attempt_line (1 + i) (get_or xs i d)) = subst (λ text. GrowsByFront b c text) is k in
     subst (λ text. GrowsByFront a c text) (sym (split_lines 1 xs i d within))
-      (front_then a b c (attempt_lines 1 (take i xs)) (attempt_line (1 + i) (get_or xs i d)) (attempt_lines (1 + suc i) (drop (suc i) xs)) h next)
+    (front_then a b c (attempt_lines 1 (take i xs)) (attempt_line (1 + i) (get_or xs i d)) (attempt_lines (1 + suc i) (drop (suc i) xs)) h next)
 
 -- the line of the attempt at a place, counted from 1
 pub numbered_piece : (xs : List Attempt) (i : ℕ) (x : Attempt) (piece : List ℕ) → x ≡ get_or xs i x → piece ≡ attempt_line (i + 1) x →

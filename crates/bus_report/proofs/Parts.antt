@@ -25,8 +25,8 @@ pub parts : (log : LogData) (plan : PlanData) (attempts : List Attempt) (words :
     (blocks : List BlockEnd) (terminals : List TerminalEnd) →
     attempts ≡ log.attempts → words ≡ log.words → bursts ≡ log.bursts → blocks ≡ log.blocks → terminals ≡ log.terminals →
     attempt_lines 1 attempts ++ (flat_map word_line words ++ (flat_map burst_line bursts
-      ++ (terminals_text blocks terminals ++ end_text log.end.0 log.clashes))) ≡ report_text log plan []
+    ++ (terminals_text blocks terminals ++ end_text log.end.0 log.clashes))) ≡ report_text log plan []
 unfolding report_text
 parts log plan attempts words bursts blocks terminals a w u b t = rw (a, w, u, b, t, no_subsystems log.blocks plan log.terminals)
     (regroup (attempt_lines 1 log.attempts) (flat_map word_line log.words) (flat_map burst_line log.bursts)
-      (terminals_text log.blocks log.terminals) (end_text log.end.0 log.clashes))
+    (terminals_text log.blocks log.terminals) (end_text log.end.0 log.clashes))

@@ -65,7 +65,7 @@ terminal_lines blocks plan (t ∷ ts) [] = terminal_text blocks t ++ terminal_li
 terminal_lines blocks plan (t ∷ ts) (text ∷ texts) =
     terminal_text blocks t
     ++ (if has_subsystem plan t.address then subsystem_line t.address text ++ terminal_lines blocks plan ts texts
-        else terminal_lines blocks plan ts (text ∷ texts))
+    else terminal_lines blocks plan ts (text ∷ texts))
 
 -- terminals without subsystems
 abbrev pub terminals_text : List BlockEnd → List TerminalEnd → List ℕ

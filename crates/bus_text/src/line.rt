@@ -147,5 +147,9 @@ fn digit_of(n: u16) -> u8
     ensures digit { result ≡ hex_digit n }
     ensures ascii { result < 128 }
 {
-    if n < 10 { b'0' + n as u8 } else { b'A' + (n as u8 - 10) }
+    if n < 10 {
+        b'0' + n as u8
+    } else {
+        b'A' + (n as u8 - 10)
+    }
 }

@@ -92,7 +92,9 @@ impl Line {
             Kind::Receive { to, sub, words } => {
                 self.word(data_command(*to, false, *sub, words.words().len() as u8));
             }
-            Kind::Transmit { from, sub, count } => self.word(data_command(*from, true, *sub, *count)),
+            Kind::Transmit { from, sub, count } => self.word(data_command(
+                *from, true, *sub, *count,
+            )),
             Kind::Relay {
                 from,
                 from_sub,

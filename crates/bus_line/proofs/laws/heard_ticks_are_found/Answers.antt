@@ -1,5 +1,3 @@
-use Rattle.std.proofs.Common.{◌≡◌, ℕ, ◌≤◌}
-use Rattle.bus_line.specs.Bursts.{IsQuietAt}
 use Rattle.bus_line.proofs.HeardLaws.{heard_within-is, heard_within-from, first_heard-is, first_heard-found, first_heard-none, first_heard-quiet}
 use Rattle.bus_line.proofs.laws.heard_ticks_are_found.Goals as goal
 

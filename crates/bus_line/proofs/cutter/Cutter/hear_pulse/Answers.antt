@@ -3,12 +3,12 @@ use Rattle.bus_line.specs.declared.cutter.TheConstants.{LAG}
 use Rattle.bus_line.proofs.CutLaws.{begins-cut, begins-stands, plain-cut, full-cut, crossed-cut, pulse-stands}
 use Rattle.bus_line.proofs.cutter.Cutter.hear_pulse.Goals as goal
 
-pub returns-then-self-gt-LAG-clause-cut : goal.returns-then-self-gt-LAG-clause-cut
-returns-then-self-gt-LAG-clause-cut c past s = begins-cut LAG c.args.self.now past s c.args.sample (omega arith) c.requires.pulse
+pub returns-then-not-runs-clause-cut : goal.returns-then-not-runs-clause-cut
+returns-then-not-runs-clause-cut c past s = begins-cut LAG c.args.self.now past s c.args.sample (grind (arith, c.runs.ensures, c.if-not-runs.true)) c.requires.pulse
 
-pub returns-then-self-gt-LAG-clause-stands : goal.returns-then-self-gt-LAG-clause-stands
-returns-then-self-gt-LAG-clause-stands c past s =
-    rw c.begin.ensures (begins-stands LAG c.args.self.now past s c.args.sample (omega arith) c.requires.pulse)
+pub returns-then-not-runs-clause-stands : goal.returns-then-not-runs-clause-stands
+returns-then-not-runs-clause-stands c past s =
+    rw c.begin.ensures (begins-stands LAG c.args.self.now past s c.args.sample (grind (arith, c.runs.ensures, c.if-not-runs.true)) c.requires.pulse)
 
 pub returns-then-place-lt39-clause-cut : goal.returns-then-place-lt39-clause-cut
 returns-then-place-lt39-clause-cut c past s =

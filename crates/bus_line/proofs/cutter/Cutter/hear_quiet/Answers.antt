@@ -3,19 +3,19 @@ use Rattle.bus_line.specs.declared.cutter.TheConstants.{LAG}
 use Rattle.bus_line.proofs.CutLaws.{idle-cut, pending-cut, ended-cut, quiet-stands}
 use Rattle.bus_line.proofs.cutter.Cutter.hear_quiet.Goals as goal
 
-pub returns-then-self-gt-LAG-clause-cut : goal.returns-then-self-gt-LAG-clause-cut
-returns-then-self-gt-LAG-clause-cut c past s = idle-cut LAG c.args.self.now past s (omega arith)
+pub returns-then-not-runs-clause-cut : goal.returns-then-not-runs-clause-cut
+returns-then-not-runs-clause-cut c past s = idle-cut LAG c.args.self.now past s (grind (arith, c.runs.ensures, c.if-not-runs.true))
 
-pub returns-then-self-le-LAG-clause-cut : goal.returns-then-self-le-LAG-clause-cut
-returns-then-self-le-LAG-clause-cut c past s = pending-cut LAG c.args.self.now past s (omega arith)
+pub returns-then-runs-clause-cut : goal.returns-then-runs-clause-cut
+returns-then-runs-clause-cut c past s = pending-cut LAG c.args.self.now past s (omega arith)
 
-pub returns-then-self-le-LAG-clause-stands : goal.returns-then-self-le-LAG-clause-stands
-returns-then-self-le-LAG-clause-stands c past s =
+pub returns-then-runs-clause-stands : goal.returns-then-runs-clause-stands
+returns-then-runs-clause-stands c past s =
     let at : c.from.result ≡ (c.args.self.now.rest + c.args.self.now.quiet) % 40 = omega arith in
     rw at (quiet-stands LAG c.args.self.now past s (c.args.self.now.rest + c.args.self.now.quiet) refl (omega arith))
 
 pub returns-clause-cut : goal.returns-clause-cut
-returns-clause-cut c past s = ended-cut LAG c.args.self.now past s (omega arith)
+returns-clause-cut c past s = ended-cut LAG c.args.self.now past s (grind (arith, c.runs.ensures, c.if-not-runs.false, c.runs-2.ensures, c.if-runs.false))
 
 pub returns-clause-stands : goal.returns-clause-stands
 returns-clause-stands c past s =

@@ -17,7 +17,7 @@ digits-requires t c = (omega arith, omega (arith, shorter c.args.n (omega arith)
 pub ascii-requires-2-clause-room : goal.ascii-requires-2-clause-room
 ascii-requires-2-clause-room t c =
     let more : length (c.digits.new.self) ≡ length c.args.self.now + length (decimal (c.args.n / 10)) =
-      ap length c.digits.ensures.text ∙ length-append c.args.self.now (decimal (c.args.n / 10)) in
+    ap length c.digits.ensures.text ∙ length-append c.args.self.now (decimal (c.args.n / 10)) in
     omega (arith, shorter c.args.n (omega arith) (omega arith), more)
 
 pub returns-then-n-lt10 : goal.returns-then-n-lt10
@@ -26,5 +26,5 @@ returns-then-n-lt10 t c = record { text = rw (decimal_digit c.args.n c.if-n-lt10
 pub returns : goal.returns
 returns t c = record {
   text = rw (decimal_step c.args.n (omega arith) (omega arith))
-    (c.ascii-2.ensures.text ∙ rw c.digits.ensures.text (append_assoc c.args.self.now (decimal (c.args.n / 10)) _));
+      (c.ascii-2.ensures.text ∙ rw c.digits.ensures.text (append_assoc c.args.self.now (decimal (c.args.n / 10)) _));
 }

@@ -1,4 +1,3 @@
-
 use Rattle.bus_text.proofs.Commands.{receive_commands}
 use Rattle.bus_text.proofs.line.Line.commands.Goals as goal
 

@@ -9,5 +9,5 @@ pub returns-clause-grows : goal.returns-clause-grows
 returns-clause-grows c =
     let few : length (decimal c.args.n) ≤ 20 = length-decimal-le 20 c.args.n (omega arith) (omega arith) (omega arith) in
     let more : length c.digits.new.self ≡ length c.args.self.now + length (decimal c.args.n) =
-      ap length c.digits.ensures.text ∙ length-append c.args.self.now (decimal c.args.n) in
+    ap length c.digits.ensures.text ∙ length-append c.args.self.now (decimal c.args.n) in
     omega arith

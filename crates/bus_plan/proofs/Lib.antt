@@ -1,0 +1,9 @@
+pub mod Documents
+pub mod Lists
+pub mod Amounts
+pub mod Flips
+pub mod RangeLaws
+pub mod StationLaws
+pub mod ItemLaws
+pub mod FaultLaws
+pub mod AcceptedLaws

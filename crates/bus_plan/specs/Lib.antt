@@ -1,0 +1,15 @@
+pub mod Document
+pub mod Ranges
+pub mod Rows
+pub mod Place
+pub mod Positions
+pub mod Rules
+pub mod Walk
+pub mod Decode
+pub mod DecodeItems
+pub mod DecodeFaults
+pub mod ItemRules
+pub mod FaultRules
+pub mod Limits
+pub mod Refusals
+pub mod PlanOf

@@ -1,0 +1,7 @@
+use Rattle.bus_tool.proofs.Ending.{answered}
+use Rattle.bus_tool.proofs.tool.run.Goals as goal
+
+pub returns-in-Ok : goal.returns-in-Ok
+returns-in-Ok g c words meant =
+    answered words _ _ _ _ _ _ _ _ meant c.read_input.ensures.later c.answer.ensures.later c.in-Ok.input.items c.answer.result c.in-Ok.ensures.input
+    (rw c.as_slice.ensures.value at c.answer.ensures)

@@ -1,0 +1,5 @@
+pub mod Meaning
+pub mod Built
+pub mod Due
+pub mod Ends
+pub mod Answers

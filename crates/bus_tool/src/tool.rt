@@ -1,0 +1,44 @@
+//! The top call.
+ghost use Rattle.std.specs.Prelude.{◌≡◌, map, string_bytes};
+ghost use Rattle.bus_tool.specs.Ends.{Ends, EndsRun};
+
+use crate::input::{Stop, read_input};
+use crate::run::answer;
+use crate::words::{Command, command_of};
+use bus_outside::{Sink, Source};
+use std::alloc::Global;
+
+/// Does what the words ask for, and answers the program's status.
+///
+/// The words are the command line without the program's name. 0: the input was read to its end and the whole text was written. 2: the
+/// words have no meaning, and nothing was read. 3: the input was read and is refused. 4: the source failed, and nothing was written.
+/// 5: the sink failed, and a front of the text that was due was written. 6: memory ran out, and nothing was written.
+pub fn bus_tool<S: Source, K: Sink>(
+    alloc: Global,
+    words: &[String],
+    source: &mut S,
+    sink: &mut K,
+) -> u8
+    ensures { Ends (map string_bytes words.now) (S.left source.old) (S.left source.new) (K.held sink.old) (K.held sink.new)
+        (S.faults source.old) (S.faults source.new) (K.faults sink.old) (K.faults sink.new) result }
+{
+    match command_of(words) {
+        None => match sink.write(b"words refused\n") {
+            Ok(()) => 2,
+            Err(_) => 5,
+        },
+        Some(Command::Run) => run(alloc, source, sink),
+    }
+}
+
+// The command `run`.
+fn run<S: Source, K: Sink>(alloc: Global, source: &mut S, sink: &mut K) -> u8
+    ensures { EndsRun (S.left source.old) (S.left source.new) (K.held sink.old) (K.held sink.new)
+        (S.faults source.old) (S.faults source.new) (K.faults sink.old) (K.faults sink.new) result }
+{
+    match read_input(alloc, source) {
+        Err(Stop::Fault) => 4,
+        Err(Stop::Memory) => 6,
+        Ok(input) => answer(alloc, input.as_slice(), sink),
+    }
+}
