@@ -10,7 +10,7 @@ pub returns-in-None : goal.returns-in-None
 returns-in-None c =
     let within : c.loop-slot.slot-index < length c.args.slots.now = omega arith in
     sym (c.loop-slot.invariant.0
-      ∙ data-none c.args.count c.loop-slot.slot-index c.args.slots.now None c.loop-slot.words within c.loop-slot.invariant.2 (sym c.in-None.ensures))
+    ∙ data-none c.args.count c.loop-slot.slot-index c.args.slots.now None c.loop-slot.words within c.loop-slot.invariant.2 (sym c.in-None.ensures))
 
 pub loop-slot-preserved : goal.loop-slot-preserved
 loop-slot-preserved c =
