@@ -6,3 +6,4 @@ pub mod WordLaws
 pub mod ScribeLaws
 pub mod ListLaws
 pub mod OpeningLaws
+pub mod AwaitedLaws
