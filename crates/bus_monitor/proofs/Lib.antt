@@ -7,3 +7,4 @@ pub mod ScribeLaws
 pub mod ListLaws
 pub mod OpeningLaws
 pub mod AwaitedLaws
+pub mod FrontLaws

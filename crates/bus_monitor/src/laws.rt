@@ -1,13 +1,15 @@
 //! Laws of the listings, each a function with nothing to do.
-ghost use Rattle.std.specs.Prelude.{◌≡◌, ◌<◌, ℕ, List, ◌∷◌, ◌++◌, length, map, flat_map, Some, None};
+ghost use Rattle.std.specs.Prelude.{◌≡◌, ◌<◌, ℕ, List, ◌∷◌, ◌++◌, length, take, map, flat_map, Option, Some, None};
 ghost use Rattle.bus_base.specs.declared.samples.Channel.TheVariants.{A, B};
 ghost use Rattle.bus_base.specs.declared.samples.Pair.{Pair};
 ghost use Rattle.bus_base.specs.declared.samples.Sample.{Sample};
 ghost use Rattle.bus_line.specs.Past.{Burst, runs, ended_now};
 ghost use Rattle.bus_line.specs.Channels.{valid_now};
 ghost use Rattle.bus_formats.specs.Times.{no_response};
+ghost use Rattle.bus_words.specs.declared.word.Word.{Word};
 ghost use Rattle.bus_text.specs.Texts.{word_line};
 ghost use Rattle.bus_monitor.specs.Listings.{heard_word};
+ghost use Rattle.bus_monitor.specs.Messages.{message_of};
 ghost use Rattle.bus_monitor.specs.Progress.{
   words_now,
   word_lines,
@@ -43,4 +45,9 @@ pub fn one_message_a_channel_is_kept()
         closed_now k (x ∷ past) ≡ closed_in_time (length past) (runs k (x ∷ past)) (awaited k past) }
     ensures keeps { (k : ℕ) (x : Sample) (past : List Sample) → ended_now k (x ∷ past) ≡ None →
         awaited k (x ∷ past) ≡ kept_in_time (length past) (runs k (x ∷ past)) (awaited k past) }
+{}
+
+/// The first 34 slots of a burst tell which message it opens, so no more are kept.
+pub fn long_bursts_open_no_message()
+    ensures { (slots : List (Option Word)) (rest : ℕ) → message_of (take 34 slots) rest ≡ message_of slots rest }
 {}
