@@ -5,3 +5,6 @@ pub mod LineLaws
 pub mod WordLaws
 pub mod ScribeLaws
 pub mod ListLaws
+pub mod OpeningLaws
+pub mod AwaitedLaws
+pub mod FrontLaws

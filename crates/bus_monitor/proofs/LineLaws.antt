@@ -1,6 +1,6 @@
 -- The lines of both listings grow by those of the newest tick.
-use Rattle.std.proofs.Common.{◌≡◌, subst, ℕ, zero, suc, ◌+◌, ◌<◌, ◌≤◌, List, [], ◌∷◌, ◌++◌, length, refl, ap, sym, ◌∙◌, arith, append_assoc}
-use Rattle.std.specs.Prelude.{Bool, true, false, not, nat_lt, ◌==◌, ◌&&◌, is_some, if◌then◌else◌, Option, Some, None, option_to_list, map, flat_map}
+use Rattle.std.proofs.Common.{◌≡◌, subst, ℕ, suc, ◌+◌, ◌<◌, ◌≤◌, List, [], ◌∷◌, ◌++◌, length, refl, ap, sym, ◌∙◌, arith, append_assoc}
+use Rattle.std.specs.Prelude.{Bool, true, false, nat_lt, ◌==◌, is_some, if◌then◌else◌, Option, Some, None, option_to_list, map, flat_map}
 use Rattle.std.proofs.lemmas.List.{append-nil, map-append}
 use Rattle.std.proofs.lemmas.List.Concat.{flat_map-append}
 use Rattle.std.proofs.lemmas.Bool.Decides.{nat_tests}
@@ -13,17 +13,15 @@ use Rattle.bus_line.specs.Past.{Burst, Slot, runs, ended_now, end_of, slot_now}
 use Rattle.bus_line.specs.Channels.{on_channel, valid, valid_now, valid_of, valid_word}
 use Rattle.bus_formats.specs.Times.{no_response}
 use Rattle.bus_formats.specs.Forms.{answers_of}
-use Rattle.bus_formats.specs.declared.log.Heard.{Heard}
 use Rattle.bus_formats.specs.declared.form.Reading.{Reading}
 use Rattle.bus_formats.specs.declared.form.Reading.TheVariants.{Good, Ends}
 use Rattle.bus_formats.specs.declared.plan.Kind.{Kind}
 use Rattle.bus_words.specs.declared.word.Word.{Word}
 use Rattle.bus_text.specs.Texts.{word_line}
 use Rattle.bus_monitor.specs.Messages.{Closed, Waiting, messages, waits_on, opened, opening, closed_by, answer_read, is_answer, unanswered}
-use Rattle.bus_monitor.specs.Listings.{heard_word, lines_on, lines_of_both, place_line, ClosedLine, closed_line, messages_on}
-use Rattle.bus_monitor.specs.Progress.{heard_at, heard_of, heard_now, words_now, word_lines, waiting, closed_at_burst, closed_in_time, closed_with, closed_now, message_lines, messages_now}
+use Rattle.bus_monitor.specs.Listings.{heard_word, lines_on, lines_of_both, place_line, ClosedLine, closed_line}
+use Rattle.bus_monitor.specs.Progress.{heard_at, heard_of, words_now, word_lines, waiting, closed_at_burst, closed_in_time, closed_with, closed_now, message_lines, messages_now}
 use Rattle.bus_monitor.proofs.PastLaws.{an-end}
-use Rattle.bus_monitor.proofs.PastLaws as past_laws
 use Rattle.bus_monitor.proofs.ChannelLaws.{ended, length-on_channel}
 use Rattle.bus_monitor.proofs.MessageLaws.{messages-grow, messages-channel, messages_of}
 

@@ -1,12 +1,11 @@
 -- The messages of one channel grow by those that close in the newest tick.
-use Rattle.std.proofs.Common.{◌≡◌, ℕ, zero, suc, ◌+◌, ◌<◌, ◌≤◌, List, [], ◌∷◌, ◌++◌, length, refl, ap, sym, ◌∙◌, arith, append_assoc}
-use Rattle.std.specs.Prelude.{Bool, true, false, not, nat_lt, nat_le, ◌==◌, ◌&&◌, if◌then◌else◌, Option, Some, None, is_some, option_to_list}
+use Rattle.std.proofs.Common.{◌≡◌, ℕ, suc, ◌+◌, ◌<◌, List, [], ◌∷◌, ◌++◌, length, refl, ap, sym, ◌∙◌, arith, append_assoc}
+use Rattle.std.specs.Prelude.{Bool, true, false, not, nat_lt, nat_le, ◌==◌, if◌then◌else◌, Option, Some, None, is_some, option_to_list}
 use Rattle.std.proofs.lemmas.List.{append-nil}
 use Rattle.std.proofs.lemmas.Bool.Decides.{nat_tests}
 use Rattle.bus_base.specs.declared.samples.Channel.{Channel}
 use Rattle.bus_base.specs.declared.samples.Pair.{Pair}
 use Rattle.bus_base.specs.declared.samples.Sample.{Sample}
-use Rattle.bus_base.specs.Samples.{sample_on}
 use Rattle.bus_line.specs.Past.{Burst, runs, first_tick, ended_now, end_of}
 use Rattle.bus_line.specs.Channels.{on_channel}
 use Rattle.bus_formats.specs.Forms.{answers_of}
@@ -14,7 +13,7 @@ use Rattle.bus_formats.specs.Times.{no_response}
 use Rattle.bus_formats.specs.declared.form.Reading.{Reading}
 use Rattle.bus_formats.specs.declared.form.Reading.TheVariants.{Good, Ends}
 use Rattle.bus_formats.specs.declared.plan.Kind.{Kind}
-use Rattle.bus_monitor.specs.Messages.{Closed, Waiting, messages, closes, waits, waits_on, waits_after, opens, opened, opening, closed_by, answer_read, is_answer, unanswered, answered_late, closed_at_end}
+use Rattle.bus_monitor.specs.Messages.{Closed, Waiting, messages, closes, waits, waits_on, waits_after, opens, opened, opening, closed_by, answer_read, is_answer, unanswered, closed_at_end}
 use Rattle.bus_monitor.specs.Listings.{running_on, messages_on, bursts_on}
 use Rattle.bus_monitor.specs.Progress.{waits_after_end, waiting, closed_at_burst, closed_in_time, closed_with, closed_now}
 use Rattle.bus_monitor.proofs.PastLaws.{RunsOn, runs-on, an-end}

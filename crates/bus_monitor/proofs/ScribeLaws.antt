@@ -1,13 +1,13 @@
 -- What a byte does to a scribe.
-use Rattle.std.proofs.Common.{◌≡◌, ℕ, suc, ◌+◌, ◌≤◌, ◌<◌, List, [], ◌∷◌, ◌++◌, length, reverse, take, drop, get_or, refl, ap, sym, subst, inl, inr, ⊎_elim, ◌∙◌, arith, append_assoc}
-use Rattle.std.specs.Prelude.{false, true, Option, Some, None, option_to_list, Result, Ok, Err}
+use Rattle.std.proofs.Common.{◌≡◌, ℕ, ◌+◌, ◌≤◌, ◌<◌, List, [], ◌∷◌, ◌++◌, length, reverse, take, drop, get_or, refl, ap, sym, subst, inl, inr, ⊎_elim, ◌∙◌, arith, append_assoc}
+use Rattle.std.specs.Prelude.{false, true, Option, Some, None, option_to_list, Ok, Err}
 use Rattle.std.proofs.lemmas.List.{append-nil, reverse-append, take-append-drop}
 use Rattle.std.proofs.lemmas.Grind.{take_at_read}
 use Rattle.std.specs.Io.KnownBytes.{Appends, IsAtEnd}
 use Rattle.bus_base.specs.declared.samples.Pair.{Pair}
 use Rattle.bus_outside.specs.Causes.{GrowsByFront}
 use Rattle.bus_outside.proofs.Writes.{appends_then, front_then}
-use Rattle.bus_capture.specs.Readings.{ticks_in, tick_now, place_after, one_byte, answer_at, answer_now, end_after, text_limit}
+use Rattle.bus_capture.specs.Readings.{ticks_in, tick_now, place_after, answer_at, answer_now, end_after, text_limit}
 use Rattle.bus_capture.specs.Reader.{ReaderStands, is_refused}
 use Rattle.bus_capture.specs.declared.refusal.CaptureRefusal.{CaptureRefusal}
 use Rattle.bus_capture.specs.declared.reader.CaptureReader.{CaptureReader}
@@ -19,7 +19,7 @@ use Rattle.bus_monitor.specs.declared.listing.Listing.TheVariants as listings
 use Rattle.bus_monitor.specs.declared.scribe.Scribe.{Scribe}
 use Rattle.bus_monitor.specs.declared.scribe.Stop.{Stop}
 use Rattle.bus_monitor.specs.declared.scribe.Stop.TheVariants as stops
-use Rattle.bus_monitor.specs.Scribes.{Owed, Written, FrontWritten, Holds, Follows, Took, Closes, IsRefusedBy, FrontAtEnd, EndsSo, CauseOf}
+use Rattle.bus_monitor.specs.Scribes.{Owed, Written, Holds, Follows, Took, Closes, IsRefusedBy, EndsSo, CauseOf}
 
 answer-ok : (place : Place) (tick found : Option Pair) → answer_at place tick ≡ Ok found → (is_refused place ≡ false) × (tick ≡ found)
 answer-ok (Refused refusal) tick found h = absurd (cc)

@@ -1,11 +1,11 @@
 -- What the listings grow by in each tick. That they are the listings of the whole past is a law.
-use Rattle.std.specs.Prelude.{ℕ, ◌+◌, Bool, true, false, not, ◌==◌, ◌&&◌, if◌then◌else◌, List, [], ◌∷◌, ◌++◌, map, flat_map, length, Option, Some, None, is_some, option_to_list, codes}
+use Rattle.std.specs.Prelude.{ℕ, ◌+◌, Bool, not, ◌==◌, ◌&&◌, if◌then◌else◌, List, [], ◌∷◌, ◌++◌, map, flat_map, length, Option, Some, None, option_to_list, codes}
 use Rattle.bus_base.specs.declared.samples.Channel.{Channel}
 use Rattle.bus_base.specs.declared.samples.Channel.TheVariants.{A, B}
 use Rattle.bus_base.specs.declared.samples.Pair.{Pair}
 use Rattle.bus_base.specs.declared.samples.Sample.{Sample}
 use Rattle.bus_line.specs.Past.{Burst, Slot, runs, ended_now, slot_now}
-use Rattle.bus_line.specs.Channels.{on_channel, valid, valid_now}
+use Rattle.bus_line.specs.Channels.{on_channel, valid}
 use Rattle.bus_formats.specs.Times.{no_response}
 use Rattle.bus_formats.specs.declared.log.Heard.{Heard}
 use Rattle.bus_words.specs.declared.word.Word.{Word}

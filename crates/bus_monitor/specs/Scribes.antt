@@ -1,5 +1,5 @@
 -- What a scribe has read and written: the lines that were made of the ticks, of which the last may still be held back; and what it ends with.
-use Rattle.std.specs.Prelude.{◌≡◌, ℕ, suc, ◌<◌, ◌≤◌, ◌⊎◌, false, List, [], ◌∷◌, ◌++◌, length, reverse, Option, Some, None, Result, Ok, Err}
+use Rattle.std.specs.Prelude.{◌≡◌, ℕ, suc, ◌<◌, ◌≤◌, ◌⊎◌, false, List, ◌++◌, length, reverse, Option, Result, Ok, Err}
 use Rattle.std.specs.Io.KnownBytes.{Appends, Consumes, IsAtEnd}
 use Rattle.bus_base.specs.declared.samples.Pair.{Pair}
 use Rattle.bus_outside.specs.Causes.{GrowsByFront, Rose}

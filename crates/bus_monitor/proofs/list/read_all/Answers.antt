@@ -1,4 +1,4 @@
-use Rattle.std.proofs.Common.{◌≡◌, ◌≤◌, ◌<◌, ℕ, [], length, reverse, take, arith}
+use Rattle.std.proofs.Common.{◌≡◌, ◌≤◌, ◌<◌, [], length, reverse, take, arith}
 use Rattle.std.proofs.KnownBytes.{Consumes-nil}
 use Rattle.bus_monitor.proofs.ListLaws.{left-some, room-some, piece-more, piece-last}
 use Rattle.bus_monitor.proofs.list.read_all.Goals as goal

@@ -1,6 +1,6 @@
-use Rattle.std.proofs.Common.{◌≡◌, ◌≤◌, ◌++◌, [], ℕ, List, length, reverse, take, arith, inl, inr, sym, refl}
+use Rattle.std.proofs.Common.{◌≡◌, ◌++◌, [], length, reverse, take, arith, inl, sym}
 use Rattle.std.proofs.KnownBytes.{Consumes-kept, Consumes-nil}
-use Rattle.bus_capture.specs.Readings.{ticks_in, text_limit}
+use Rattle.bus_capture.specs.Readings.{ticks_in}
 use Rattle.bus_monitor.proofs.ScribeLaws.{ends-refused, ends-read, cause-source}
 use Rattle.bus_monitor.proofs.scribe.Scribe.read_piece.Goals as goal
 
