@@ -200,7 +200,7 @@ items-repeated (suc n) frames =
 pub length-all : (n : ℕ) (frames : List FrameData) → length (entries_from 1 0 (repeated n frames)) ≡ n * items_of frames
 length-all n frames = length-from 1 0 (repeated n frames) ∙ items-repeated n frames
 
-items-short : (r i : ℕ) → 1 ≤ r → r * i ≤ 16384 → i ≤ 16384
+pub items-short : (r i : ℕ) → 1 ≤ r → r * i ≤ 16384 → i ≤ 16384
 items-short zero i some few = absurd (omega (arith, some))
 items-short (suc r) i some few = let parts : suc r * i ≡ i + r * i = omega arith in omega (arith, few, parts)
 

@@ -2,7 +2,30 @@
 //! (MIL-STD-1553B 4.4.2). It is proved to do what `bus_model` says of a controller.
 #![tactic(auto)]
 
+pub mod agenda;
+pub mod attempt;
+mod close;
+pub mod doubting;
+pub mod expecting;
+pub mod holding;
+pub mod moment;
+pub mod opening;
 pub mod place;
 pub mod queue;
+pub mod sending;
+pub mod settling;
+pub mod states;
+pub mod yielded;
 
+pub use agenda::{Agenda, Origin};
+pub use attempt::{Begun, Ended};
+pub use doubting::{DOUBTING, Doubting};
+pub use expecting::Expecting;
+pub use holding::Holding;
+pub use moment::{Moment, Receiver};
+pub use opening::{Opening, SETTLING_QUIET};
 pub use queue::{Due, Entry, Queue};
+pub use sending::Sending;
+pub use settling::Settling;
+pub use states::{ControllerEvent, ControllerNext, ControllerState};
+pub use yielded::Yielded;

@@ -1,6 +1,6 @@
 use Rattle.std.proofs.Common.{◌≡◌, ◌*◌, ◌≤◌, refl, sym, ap, ◌∙◌, arith}
 use Rattle.bus_controller.specs.Queue.{items_of, IsPlace, entries_of, HasItem}
-use Rattle.bus_controller.proofs.Places.{length-all, items-short, queue-is}
+use Rattle.bus_controller.proofs.Places.{length-all, queue-is}
 use Rattle.bus_controller.proofs.queue.Queue.new.Goals as goal
 
 pub first_place-place-requires-clause-left : goal.first_place-place-requires-clause-left
