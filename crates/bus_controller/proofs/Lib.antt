@@ -10,3 +10,4 @@ pub mod Doubts
 pub mod ReadLaws
 pub mod Expects
 pub mod AnswerLaws
+pub mod StateLaws

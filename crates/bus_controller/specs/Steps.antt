@@ -21,7 +21,7 @@ use Rattle.bus_formats.specs.declared.form.Reading.TheVariants as readings
 use Rattle.bus_formats.specs.declared.plan.Kind.{Kind}
 use Rattle.bus_retry.specs.Retries.{next_of}
 use Rattle.bus_model.specs.Waits.{settling_quiet, doubting}
-use Rattle.bus_model.specs.Starts.{finishes, planned_at}
+use Rattle.bus_model.specs.Starts.{Entry, finishes, planned_at}
 use Rattle.bus_model.specs.Attempts.{Begun, Ended, without_words, recorded, is_offer, kept_words}
 use Rattle.bus_model.specs.Course.{gives}
 use Rattle.bus_model.specs.Sending.{drive_sample}
@@ -237,3 +237,20 @@ next_of_state k (states.Yielded s) m = from_yielded s
 abbrev pub driven_by : ControllerState → Drive
 driven_by (states.Sending s) = drive_sample s.begun.state.channel parts.Command s.burst.items s.sent
 driven_by _ = Silent
+
+-- control is taken before this tick, after so many quiet ones
+abbrev pub taken_by : ControllerState → Tick → ℕ → ℕ → ControllerState
+taken_by (states.Yielded s) first next quiet = waits (taken s first).agenda (openings.Taking first) next quiet
+taken_by s first next quiet = s
+
+abbrev pub serves : ControllerState → Bool
+serves (states.Yielded s) = true
+serves _ = false
+
+abbrev pub left_of : ControllerState → List Entry
+left_of (states.Holding s) = s.agenda.left
+left_of (states.Sending s) = s.agenda.left
+left_of (states.Expecting s) = s.agenda.left
+left_of (states.Settling s) = s.agenda.left
+left_of (states.Doubting s) = s.agenda.left
+left_of (states.Yielded s) = s.agenda.left

@@ -54,10 +54,14 @@ impl Model for Agenda {
 }
 
 impl Agenda {
+    ghost use Rattle.bus_formats.specs.Plans.{StationData};
+    ghost use Rattle.bus_controller.specs.AgendaOf.{IsAgendaOf};
+
     /// All items of the frames, which are run `repeat` times (1 to 64). `channel` is the live channel, on which items run that name none.
     pub fn new(frames: Vec<FramePlan>, repeat: u32, channel: Channel) -> Agenda
         requires { MayRun frames.items repeat }
-        ensures { result ≡ record { left = entries_from 1 0 (repeated repeat frames.items); live = channel; retry = None; origin = first_origin } }
+        ensures value { result ≡ record { left = entries_from 1 0 (repeated repeat frames.items); live = channel; retry = None; origin = first_origin } }
+        ensures whole { (station : StationData) → station.frames ≡ frames.items → station.repeat ≡ repeat → station.channel ≡ channel → IsAgendaOf station result }
     {
         Agenda {
             queue: Queue::new(frames, repeat),

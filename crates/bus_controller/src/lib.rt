@@ -5,6 +5,7 @@
 pub mod agenda;
 pub mod attempt;
 mod close;
+pub mod controller;
 pub mod doubting;
 pub mod expecting;
 pub mod holding;
@@ -19,6 +20,7 @@ pub mod yielded;
 
 pub use agenda::{Agenda, Origin};
 pub use attempt::{Begun, Ended};
+pub use controller::Controller;
 pub use doubting::{DOUBTING, Doubting};
 pub use expecting::Expecting;
 pub use holding::Holding;

@@ -96,6 +96,14 @@ impl Receiver {
     {
         Tick(self.next)
     }
+
+    /// The ticks in a row up to now in which both channels were quiet.
+    #[tactic(auto, unfolding(crate::specs::Moments::ReceiverStands))]
+    pub fn quiet(&self) -> u64
+        ensures { (past : List Pair) → ReceiverStands LAG self.now past → result ≡ quiet_both past }
+    {
+        self.quiet
+    }
 }
 
 fn quiet_after(quiet: u64, shown: Pair) -> u64

@@ -1,16 +1,16 @@
 //! The states of a controller. Hearing a tick consumes a state and gives the next one.
-ghost use Rattle.std.specs.Prelude.{◌≡◌};
+ghost use Rattle.std.specs.Prelude.{◌≡◌, length};
 ghost use Rattle.bus_line.specs.declared.cutter.TheConstants.{LAG};
-ghost use Rattle.bus_controller.specs.Steps.{going, next_of_state, driven_by};
+ghost use Rattle.bus_controller.specs.Steps.{going, next_of_state, driven_by, serves, left_of, taken_by};
 
 use crate::doubting::Doubting;
 use crate::expecting::Expecting;
-use crate::holding::Holding;
+use crate::holding::{Holding, wait};
 use crate::moment::Moment;
 use crate::sending::Sending;
 use crate::settling::Settling;
 use crate::yielded::Yielded;
-use bus_base::Drive;
+use bus_base::{Drive, Tick};
 use bus_formats::Attempt;
 
 /// A controller in one of its states.
@@ -80,6 +80,41 @@ impl ControllerState {
         match self {
             ControllerState::Sending(state) => state.drive(),
             _ => Drive::Silent,
+        }
+    }
+
+    /// Whether another station holds control.
+    pub fn serves(&self) -> bool
+        ensures { result ≡ serves self.now }
+    {
+        matches!(self, ControllerState::Yielded(_))
+    }
+
+    /// How many items are left.
+    pub fn items_left(&self) -> u32
+        ensures { result ≡ length (left_of self.now) }
+    {
+        match self {
+            ControllerState::Holding(state) => state.agenda.items_left(),
+            ControllerState::Sending(state) => state.agenda.items_left(),
+            ControllerState::Expecting(state) => state.agenda.items_left(),
+            ControllerState::Settling(state) => state.agenda.items_left(),
+            ControllerState::Doubting(state) => state.agenda.items_left(),
+            ControllerState::Yielded(state) => state.agenda.items_left(),
+        }
+    }
+
+    /// Takes control, where another station holds it. The first command starts in this tick. `next` is the tick to come, before which both
+    /// channels were quiet for so many ticks.
+    pub(crate) fn take(self, first: Tick, next: Tick, quiet: u64) -> ControllerState
+        ensures { result ≡ taken_by self first next.0 quiet }
+    {
+        match self {
+            ControllerState::Yielded(state) => {
+                let holding = state.take(first);
+                wait(holding.agenda, holding.opening, next, quiet)
+            }
+            other => other,
         }
     }
 }
