@@ -11,3 +11,4 @@ pub mod ReadLaws
 pub mod Expects
 pub mod AnswerLaws
 pub mod StateLaws
+pub mod Wholes
