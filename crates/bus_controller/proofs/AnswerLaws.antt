@@ -1,6 +1,6 @@
 -- What a controller makes of a tick while it expects an answer.
-use Rattle.std.proofs.Common.{◌≡◌, ℕ, suc, ◌+◌, ◌-◌, ◌<◌, ◌≤◌, ◌==◌, nat_le, nat_lt, Bool, true, false, not, ◌&&◌, if◌then◌else◌, List, [], ◌∷◌, ◌++◌, length, take, Option, Some, None, refl, sym, ap, ◌∙◌, arith, inl, inr, ◌⊎◌}
-use Rattle.std.proofs.lemmas.Bool.{cases_Bool, cases_lt, cases_eq}
+use Rattle.std.proofs.Common.{◌≡◌, ℕ, suc, ◌-◌, ◌≤◌, Bool, true, false, not, ◌&&◌, if◌then◌else◌, List, ◌∷◌, length, take, Option, Some, None, refl, ap, ◌∙◌, arith, inl, inr}
+use Rattle.std.proofs.lemmas.Bool.{cases_Bool}
 use Rattle.std.proofs.lemmas.Bool.Decides.{nat_tests}
 use Rattle.bus_base.specs.Samples.{is_quiet, sample_on}
 use Rattle.bus_base.specs.declared.samples.Sample.{Sample}
@@ -9,23 +9,22 @@ use Rattle.bus_base.specs.declared.samples.Pair.{Pair}
 use Rattle.bus_base.specs.declared.samples.Part.{Part}
 use Rattle.bus_base.specs.declared.samples.Part.TheVariants as parts
 use Rattle.bus_words.specs.declared.word.Word.{Word}
-use Rattle.bus_line.specs.Past.{Burst, quiet, end_of, rest_of}
+use Rattle.bus_line.specs.Past.{Burst, end_of, rest_of}
 use Rattle.bus_formats.specs.Forms.{answers_of}
 use Rattle.bus_formats.specs.Plans.{ItemData}
 use Rattle.bus_formats.specs.Readings.{read_answer}
-use Rattle.bus_formats.specs.Times.{no_response}
 use Rattle.bus_formats.specs.declared.form.Shape.{Shape}
 use Rattle.bus_formats.specs.declared.form.Outcome.{Outcome}
 use Rattle.bus_formats.specs.declared.form.Outcome.TheVariants as outcomes
 use Rattle.bus_formats.specs.declared.form.Reading.{Reading}
 use Rattle.bus_formats.specs.declared.form.Reading.TheVariants.{Good, Ends}
 use Rattle.bus_model.specs.Attempts.{Begun, Ended, without_words, is_offer, kept_words}
-use Rattle.bus_model.specs.Controller.{Reply, silence, awaited, running, whole, reply, ending_now, first_ending, second_ending, abandon_ending, read_ending}
+use Rattle.bus_model.specs.Controller.{Reply, silence, awaited, running, reply, ending_now, first_ending, second_ending, abandon_ending, read_ending}
 use Rattle.bus_model.specs.Course.{Course}
 use Rattle.bus_controller.specs.Moments.{moment_of}
 use Rattle.bus_controller.specs.Agendas.{AgendaData}
-use Rattle.bus_controller.specs.Steps.{abandons, closes, expects, good_first, first_by, second_by, is_doubtful}
-use Rattle.bus_controller.specs.Stands.{own, AttemptStands, AwaitsFirst, AwaitsSecond, Awaits, IsAwaited, IsRunning, IsDoubted, NextStands}
+use Rattle.bus_controller.specs.Steps.{abandons, expects, good_first, first_by, second_by, is_doubtful}
+use Rattle.bus_controller.specs.Stands.{own, AttemptStands, AwaitsFirst, AwaitsSecond, Awaits, IsAwaited, NextStands}
 use Rattle.bus_controller.specs.declared.states.ControllerState.TheVariants as states
 use Rattle.bus_controller.proofs.Moments.{length-on}
 use Rattle.bus_controller.proofs.Closing.{runs-on, going-stands, closes-stands}
@@ -63,7 +62,7 @@ silence-ends k item shown samples end (Some status) = refl
 
 abandon-is : (k : ℕ) (item : ItemData) (shown : List Pair) (x : Sample) (samples : List Sample) (end : ℕ) (o : Option ℕ) → end ≤ suc (length samples) →
     abandon_ending k item shown (x ∷ samples) end o
-      ≡ (if not (is_quiet x) && abandons None o (suc (length samples) - end) then Some (without_words outcomes.Abandoned None None) else None)
+    ≡ (if not (is_quiet x) && abandons None o (suc (length samples) - end) then Some (without_words outcomes.Abandoned None None) else None)
 abandon-is k item shown Plus samples end None from = refl
 abandon-is k item shown Minus samples end None from = refl
 abandon-is k item shown Quiet samples end None from = refl
@@ -73,7 +72,7 @@ abandon-is k item shown Quiet samples end (Some n) from = grind (arith, nat_test
 
 pub running-ends : (k : ℕ) (item : ItemData) (shown : List Pair) (x : Sample) (samples : List Sample) (end : ℕ) (first : Option ℕ) → end ≤ suc (length samples) →
     ending_with k item shown (x ∷ samples) end first running
-      ≡ (if not (is_quiet x) && abandons first item.abandon (suc (length samples) - end) then Some (without_words outcomes.Abandoned None None) else None)
+    ≡ (if not (is_quiet x) && abandons first item.abandon (suc (length samples) - end) then Some (without_words outcomes.Abandoned None None) else None)
 running-ends k item shown x samples end None from = abandon-is k item shown x samples end item.abandon from
 running-ends k item shown Plus samples end (Some status) from = refl
 running-ends k item shown Minus samples end (Some status) from = refl
@@ -137,17 +136,17 @@ module _ (k : ℕ) (small : k ≤ 3) (c : Course) (shown : Pair) (past : List Pa
       NextStands k c shown past (good_first k agenda b status slots (moment_of k shown past) o)
   good-by status None a good expected =
       let words : take 32 (kept_words b.entry.item.kind slots) ≡ kept_words b.entry.item.kind h.burst.slots =
-          ap (λ (xs : List (Option Word)). take 32 (kept_words b.entry.item.kind xs)) h.kept_are
-            ∙ kept-same b.entry.item.kind h.burst.slots (rest_of h.burst) status st.item.kind good in
+      ap (λ (xs : List (Option Word)). take 32 (kept_words b.entry.item.kind xs)) h.kept_are
+      ∙ kept-same b.entry.item.kind h.burst.slots (rest_of h.burst) status st.item.kind good in
       rw words (closes-stands k c shown past agenda b
-        record { outcome = outcomes.Clear; first = Some status; second = None; words = kept_words b.entry.item.kind h.burst.slots } st
-        (ending-by k b (shown ∷ past) None end a ∙ (rw (h.heard, good, expected) refl)))
+      record { outcome = outcomes.Clear; first = Some status; second = None; words = kept_words b.entry.item.kind h.burst.slots } st
+      (ending-by k b (shown ∷ past) None end a ∙ (rw (h.heard, good, expected) refl)))
   good-by status (Some shape) a good expected =
       let awaits = now-awaited in
       let is : reply k (own b (shown ∷ past)) (length past - k) ≡ awaited = reply-awaited k (own b (shown ∷ past)) (length past - k) awaits.none awaits.soon in
       let at = end-at in
       going-stands k c shown past agenda b (states.Expecting (expects k agenda b (Some status) (moment_of k shown past))) st
-        (ending-by k b (shown ∷ past) None end a ∙ (rw (h.heard, good, expected, at.0, is) refl)) record {
+      (ending-by k b (shown ∷ past) None end a ∙ (rw (h.heard, good, expected, at.0, is) refl)) record {
         attempt = runs-on k c shown past agenda b st;
         awaits = record {
           command = end;
@@ -169,7 +168,7 @@ module _ (k : ℕ) (small : k ≤ 3) (c : Course) (shown : Pair) (past : List Pa
   ends-by outcome status a bad = elim (cases_Bool (is_doubtful (is_offer b.entry.item.kind) outcome)) [
     | inr plain ↦ rw plain (closes-stands k c shown past agenda b (without_words outcome status None) st
         (ending-by k b (shown ∷ past) None end a
-          ∙ (rw (h.heard, bad) (plain-ends k b.entry.item (shown ∷ past) (own b (shown ∷ past)) h.burst (is_offer b.entry.item.kind) outcome status plain))))
+        ∙ (rw (h.heard, bad) (plain-ends k b.entry.item (shown ∷ past) (own b (shown ∷ past)) h.burst (is_offer b.entry.item.kind) outcome status plain))))
     | inl doubtful ↦ (
         let parts_are = doubtful-parts (is_offer b.entry.item.kind) outcome doubtful in
         let at = end-at in

@@ -1,10 +1,8 @@
 -- An attempt goes on, or its message ends.
-use Rattle.std.proofs.Common.{◌≡◌, ℕ, suc, ◌+◌, ◌-◌, ◌<◌, ◌≤◌, Bool, true, false, not, List, [], ◌∷◌, ◌++◌, length, drop, Option, Some, None, refl, sym, ap, ◌∙◌, arith, inl, inr, ◌⊎◌}
+use Rattle.std.proofs.Common.{◌≡◌, ℕ, Bool, true, false, not, List, ◌∷◌, length, Some, None, refl, ap, arith}
 use Rattle.std.specs.Prelude.{All}
-use Rattle.std.proofs.lemmas.Bool.{cases_Bool}
 use Rattle.std.proofs.lemmas.List.Elements.{All-drop}
 use Rattle.bus_base.specs.declared.samples.Pair.{Pair}
-use Rattle.bus_line.specs.Channels.{on_channel, quiet_both}
 use Rattle.bus_formats.specs.Accepted.{HasItemRanges}
 use Rattle.bus_retry.specs.Retries.{next_of}
 use Rattle.bus_retry.specs.declared.Choice.{Choice}
@@ -12,11 +10,11 @@ use Rattle.bus_retry.specs.declared.Choice.TheVariants.{Again, Done}
 use Rattle.bus_model.specs.Starts.{Entry, left_after}
 use Rattle.bus_model.specs.Attempts.{Begun, Ended}
 use Rattle.bus_model.specs.Controller.{ending_now}
-use Rattle.bus_model.specs.Course.{Course, runs_next, run_on, close, close_or_run, gives}
+use Rattle.bus_model.specs.Course.{Course, runs_next, run_on, close, gives}
 use Rattle.bus_controller.specs.Moments.{moment_of}
 use Rattle.bus_controller.specs.Agendas.{AgendaData, agenda_after, opens_after}
 use Rattle.bus_controller.specs.Steps.{going, closes, goes_on}
-use Rattle.bus_controller.specs.Stands.{told, agenda_of, AgendaStands, AttemptStands, WaitStands, YieldedStands, StateStands, NextStands}
+use Rattle.bus_controller.specs.Stands.{agenda_of, AgendaStands, AttemptStands, WaitStands, StateStands, NextStands}
 use Rattle.bus_controller.specs.declared.states.ControllerState.{ControllerState}
 use Rattle.bus_controller.proofs.Openings.{after-stands, after-due}
 use Rattle.bus_controller.proofs.Waiting.{waits-stand}
@@ -60,15 +58,15 @@ module _ (k : ℕ) (c : Course) (shown : Pair) (past : List Pair) where
 
   closed-by : (b : Begun) (e : Ended) → AgendaStands c (agenda_of c) → (given : Bool) → gives e.outcome ≡ given →
       StateStands k (close c b e (length past)) (shown ∷ past)
-        (goes_on given (agenda_after (agenda_of c) b e.outcome) (opens_after e.outcome b.state.channel) (moment_of k shown past))
+      (goes_on given (agenda_after (agenda_of c) b e.outcome) (opens_after e.outcome b.state.channel) (moment_of k shown past))
   closed-by b e st true is = record { keeps = closed-agenda b e st; runs = refl; holds = ap not is }
   closed-by b e st false is =
       waits-stand (close c b e (length past)) (shown ∷ past) k (agenda_after (agenda_of c) b e.outcome) (opens_after e.outcome b.state.channel)
-        (closed-waits b e st is)
+      (closed-waits b e st is)
 
   closed-state : (b : Begun) (e : Ended) → AgendaStands c (agenda_of c) →
       StateStands k (close c b e (length past)) (shown ∷ past)
-        (goes_on (gives e.outcome) (agenda_after (agenda_of c) b e.outcome) (opens_after e.outcome b.state.channel) (moment_of k shown past))
+      (goes_on (gives e.outcome) (agenda_after (agenda_of c) b e.outcome) (opens_after e.outcome b.state.channel) (moment_of k shown past))
   closed-state b e st = closed-by b e st (gives e.outcome) refl
 
   -- the message ends

@@ -1,5 +1,5 @@
 -- An offer of control that was answered badly.
-use Rattle.std.proofs.Common.{◌≡◌, ℕ, suc, ◌+◌, ◌-◌, ◌<◌, ◌≤◌, ◌==◌, nat_lt, true, false, List, [], ◌∷◌, ◌++◌, length, Option, Some, None, refl, sym, ap, ◌∙◌, arith, inl, inr}
+use Rattle.std.proofs.Common.{◌≡◌, ℕ, suc, ◌+◌, ◌-◌, ◌≤◌, ◌==◌, nat_lt, List, ◌∷◌, length, None, refl, ◌∙◌, arith, inl, inr}
 use Rattle.std.proofs.lemmas.Bool.{cases_Bool}
 use Rattle.std.proofs.lemmas.Bool.Decides.{nat_tests}
 use Rattle.bus_base.specs.declared.samples.Sample.{Sample}
@@ -9,7 +9,7 @@ use Rattle.bus_line.specs.Channels.{quiet_both}
 use Rattle.bus_line.proofs.EndLaws.{end_since-stays}
 use Rattle.bus_formats.specs.declared.form.Outcome.TheVariants.{BadReply, Yielded}
 use Rattle.bus_model.specs.Waits.{doubting}
-use Rattle.bus_model.specs.Attempts.{Begun, Ended, without_words}
+use Rattle.bus_model.specs.Attempts.{Begun, without_words}
 use Rattle.bus_model.specs.Controller.{ending_now, doubt_ending}
 use Rattle.bus_model.specs.Course.{Course}
 use Rattle.bus_controller.specs.Moments.{moment_of}

@@ -1,24 +1,20 @@
 -- An answer is awaited and heard.
-use Rattle.std.proofs.Common.{◌≡◌, ℕ, suc, ◌+◌, ◌-◌, ◌*◌, ◌/◌, ◌%◌, ◌<◌, ◌≤◌, ◌==◌, nat_le, nat_lt, Bool, true, false, not, ◌&&◌, List, [], ◌∷◌, ◌++◌, length, take, Option, Some, None, refl, sym, ap, ◌∙◌, arith, inl, inr, ◌⊎◌}
-use Rattle.std.proofs.lemmas.Bool.{cases_Bool, cases_lt, cases_eq}
-use Rattle.std.proofs.lemmas.Bool.Decides.{nat_tests}
-use Rattle.bus_base.specs.Samples.{is_quiet, sample_on}
+use Rattle.std.proofs.Common.{◌≡◌, ℕ, suc, ◌+◌, ◌-◌, ◌/◌, ◌%◌, ◌<◌, ◌≤◌, true, false, List, [], ◌∷◌, length, take, Option, Some, None, refl, sym, ap, ◌∙◌, arith}
+use Rattle.bus_base.specs.Samples.{is_quiet}
 use Rattle.bus_base.specs.declared.samples.Sample.{Sample}
-use Rattle.bus_base.specs.declared.samples.Sample.TheVariants.{Plus, Minus, Quiet}
+use Rattle.bus_base.specs.declared.samples.Sample.TheVariants.{Quiet}
 use Rattle.bus_words.specs.declared.word.Word.{Word}
-use Rattle.bus_line.specs.declared.cutter.Cut.{Cut}
 use Rattle.bus_line.specs.declared.cutter.Cut.TheVariants as cuts
-use Rattle.bus_line.specs.Past.{Burst, quiet, stopped, runs, first_tick, first_heard, end_since, newest_burst, end_of, rest_of, slot_word}
+use Rattle.bus_line.specs.Past.{Burst, quiet, stopped, runs, first_tick, end_since, newest_burst, end_of, rest_of, slot_word}
 use Rattle.bus_line.specs.Cutting.{cut_now, cut_of, running_slots, Collects}
-use Rattle.bus_line.proofs.PastLaws.{quiet-le, quiet-pulse, stopped-more, stopped-quiet, runs-parts, runs-from, runs-pulse, rests-more, first_tick-runs, first_tick-begins, first_tick-lt}
-use Rattle.bus_line.proofs.TickLaws.{quiet-sample}
-use Rattle.bus_line.proofs.EndLaws.{end_since-stays, end_since-runs, end_since-ended}
+use Rattle.bus_line.proofs.PastLaws.{quiet-le, stopped-more, stopped-quiet, runs-parts, runs-from, runs-pulse, rests-more, first_tick-runs, first_tick-begins, first_tick-lt}
+use Rattle.bus_line.proofs.EndLaws.{end_since-runs, end_since-ended}
 use Rattle.bus_line.proofs.SlotLaws.{burst-first, burst-ticks, burst_from-more}
-use Rattle.bus_line.proofs.CutNow.{now-idle, now-pending, now-ended, now-begins, now-pulse, ended-more, running-off, running-on, cut-collects}
+use Rattle.bus_line.proofs.CutNow.{now-pending, now-ended, now-begins, now-pulse, ended-more, running-off, running-on, cut-collects}
 use Rattle.bus_formats.specs.Times.{no_response}
 use Rattle.bus_model.specs.Attempts.{Begun}
-use Rattle.bus_model.specs.Controller.{reply, whole, running, silence, awaited}
-use Rattle.bus_controller.specs.Stands.{AwaitsFirst, AwaitsSecond, Awaits, IsAwaited, IsRunning}
+use Rattle.bus_model.specs.Controller.{reply, whole, silence}
+use Rattle.bus_controller.specs.Stands.{Awaits, IsAwaited, IsRunning}
 use Rattle.bus_controller.specs.Steps.{kept}
 use Rattle.bus_controller.proofs.Words.{take-again}
 use Rattle.bus_controller.proofs.Replies.{first-stays, first-quiet, first-begins, reply-stays, reply-whole, reply-silence}
@@ -95,8 +91,8 @@ module _ (k : ℕ) (small : k ≤ 3) (samples : List Sample) (end : ℕ) where
   pulse-by x slots p (Some i) r pulse is collects =
       let both = rw is at collects in
       slot i (slot_word (x ∷ samples) p i) is (goes-running x slots (kept slots (slot_word (x ∷ samples) p i)) r (runs-pulse k x samples pulse)
-        (ap (λ (xs : List (Option Word)). kept xs (slot_word (x ∷ samples) p i)) r.kept
-          ∙ take-again 34 (running_slots k samples) (slot_word (x ∷ samples) p i ∷ []) ∙ ap (take 34) (sym both.1)))
+      (ap (λ (xs : List (Option Word)). kept xs (slot_word (x ∷ samples) p i)) r.kept
+      ∙ take-again 34 (running_slots k samples) (slot_word (x ∷ samples) p i ∷ []) ∙ ap (take 34) (sym both.1)))
 
   pub pulse-cut : (x : Sample) (slots : List (Option Word)) → IsRunning k samples end slots → is_quiet x ≡ false → PulseCut x slots
   pulse-cut x slots r pulse =
@@ -120,7 +116,7 @@ ended-running k samples end slots r all =
     let ticks : (newest_burst k samples).ticks ≡ stopped samples - first_tick k samples = burst-ticks samples (first_tick k samples) (stopped samples - first_tick k samples) in
     let last : end_of (newest_burst k samples) ≡ stopped samples = (let f = r.first_is in omega (arith, first, ticks, less, f)) in
     let ended : end_since k (Quiet ∷ samples) r.first ≡ Some (end_of (newest_burst k samples)) =
-        ap (λ a. end_since k (Quiet ∷ samples) a) (sym first) ∙ end_since-ended k (Quiet ∷ samples) (newest_burst k samples) (ended-more k samples r.on all) in
+    ap (λ a. end_since k (Quiet ∷ samples) a) (sym first) ∙ end_since-ended k (Quiet ∷ samples) (newest_burst k samples) (ended-more k samples r.on all) in
     let size : end_of (newest_burst k samples) - r.first ≡ stopped samples - first_tick k samples = (let f = r.first_is in omega (arith, last, f)) in
     let same = burst_from-more Quiet samples (first_tick k samples) (stopped samples - first_tick k samples) (omega (arith, less, below)) in
     record {

@@ -1,6 +1,5 @@
 -- When and how the next attempt begins, as the code has it and as the definition has it.
-use Rattle.std.proofs.Common.{◌≡◌, ℕ, suc, ◌+◌, ◌-◌, ◌<◌, ◌≤◌, max, Bool, true, false, ◌&&◌, ◌==◌, nat_le, List, [], ◌∷◌, Option, Some, None, if◌then◌else◌, ◌⊎◌, refl, sym, ap, ◌∙◌, arith, inl, inr}
-use Rattle.std.proofs.lemmas.Bool.{cases_lt}
+use Rattle.std.proofs.Common.{◌≡◌, ℕ, suc, ◌+◌, ◌-◌, ◌<◌, ◌≤◌, max, false, ◌&&◌, ◌==◌, nat_le, Option, Some, None, if◌then◌else◌, ◌⊎◌, refl, ap, arith, inl, inr}
 use Rattle.std.proofs.lemmas.Bool.Decides.{nat_tests}
 use Rattle.bus_base.specs.declared.samples.Channel.{Channel}
 use Rattle.bus_formats.specs.declared.form.Outcome.{Outcome}
@@ -9,10 +8,8 @@ use Rattle.bus_retry.specs.declared.RetryState.{RetryState}
 use Rattle.bus_model.specs.Starts.{Entry, Origin, Opening, usual, superseding, taking, planned_start, start_of, state_of, opening_after}
 use Rattle.bus_model.specs.Waits.{settling_quiet}
 use Rattle.bus_formats.specs.Times.{dead_ticks}
-use Rattle.bus_model.specs.Attempts.{Begun}
-use Rattle.bus_model.specs.Course.{gives}
 use Rattle.bus_controller.specs.Queue.{due_of}
-use Rattle.bus_controller.specs.Agendas.{AgendaData, is_due_by, state_by, begun_by, quiet_needed, earliest, opens_after}
+use Rattle.bus_controller.specs.Agendas.{AgendaData, is_due_by, state_by, quiet_needed, earliest, opens_after}
 use Rattle.bus_controller.specs.declared.opening.Opening.{Opening as Wait}
 use Rattle.bus_controller.specs.declared.opening.Opening.TheVariants as openings
 use Rattle.bus_controller.specs.Stands.{OpeningStands}
@@ -25,7 +22,7 @@ usual-due now quiet need tick early within reached later = grind (arith, nat_tes
 due-usual : (need tick : ℕ) (retry : Option RetryState) (origin : Origin) (entry : Entry) (now quiet : ℕ) → quiet ≤ now → tick ≤ now →
     now ≤ start_of (usual need tick) retry origin entry (now - quiet) →
     (nat_le (quiet_needed retry (due_of entry) need) quiet && nat_le (earliest retry origin (due_of entry)) now)
-      ≡ (start_of (usual need tick) retry origin entry (now - quiet) == now)
+    ≡ (start_of (usual need tick) retry origin entry (now - quiet) == now)
 due-usual need tick None origin entry now quiet within reached later =
     usual-due now quiet (max need (dead_ticks entry.item.gap)) tick (if entry.place == 1 then planned_start origin entry else 0) within reached later
 due-usual need tick (Some state) origin entry now quiet within reached later = usual-due now quiet need tick 0 within reached later

@@ -1,6 +1,6 @@
 -- Places among the frames that a controller runs, and the items from a place on.
-use Rattle.std.proofs.Common.{◌≡◌, ℕ, zero, suc, ◌+◌, ◌-◌, ◌*◌, ◌<◌, ◌≤◌, List, [], ◌∷◌, ◌++◌, length, take, drop, get_or, Some, None, refl, sym, ap, ◌∙◌, arith, add-one, drop-cons, length-append, inl, inr}
-use Rattle.std.specs.Prelude.{slice_get, All, sum_by, option_map, ◌==◌}
+use Rattle.std.proofs.Common.{◌≡◌, ℕ, zero, suc, ◌+◌, ◌-◌, ◌*◌, ◌<◌, ◌≤◌, List, [], ◌∷◌, ◌++◌, length, take, drop, get_or, Some, refl, sym, ap, ◌∙◌, arith, add-one, drop-cons, length-append, inl, inr}
+use Rattle.std.specs.Prelude.{slice_get, All, option_map, ◌==◌}
 use Rattle.std.proofs.lemmas.Bool.{cases_lt}
 use Rattle.std.proofs.lemmas.Bool.Decides.{nat_tests}
 use Rattle.std.proofs.lemmas.List.{drop_all}
@@ -9,7 +9,7 @@ use Rattle.std.proofs.lemmas.List.Elements.{All-get_or}
 use Rattle.std.proofs.lemmas.Option.{slice_get-get_or, slice_get_within, get_or_from_slice_get}
 use Rattle.bus_formats.specs.Plans.{ItemData, FrameData}
 use Rattle.bus_formats.specs.Accepted.{HasItemRanges, HasFrameRanges}
-use Rattle.bus_model.specs.Starts.{Entry, entries_in, entries_from, repeated}
+use Rattle.bus_model.specs.Starts.{entries_in, entries_from, repeated}
 use Rattle.bus_controller.specs.declared.place.Place.{Place}
 use Rattle.bus_controller.specs.Queue.{entries_at, frames_at, entries_of, items_of, IsPlace, HasItem, IsQueue, MayRun, due_of}
 
@@ -43,7 +43,7 @@ unfolding entries_of
 next-same frames place next f is over at =
     rw (at, add-one place.frame)
     (at-start (place.number + 1) (place.offset + f.ticks) (drop (suc place.frame) frames ++ repeated place.rounds frames)
-      ∙ sym (past-frame frames place f is over))
+    ∙ sym (past-frame frames place f is over))
 
 -- and in the next round
 pub next-round : (frames : List FrameData) (place next : Place) (f : FrameData) (r : ℕ) → slice_get frames place.frame ≡ Some f → length f.items ≤ place.item →
@@ -54,7 +54,7 @@ unfolding entries_of
 next-round frames place next f r is over last rounds at =
     let none : drop (suc place.frame) frames ≡ [] = drop_all (suc place.frame) frames (omega (arith, last)) in
     let before : entries_of frames place ≡ entries_from (place.number + 1) (place.offset + f.ticks) (frames ++ repeated r frames) =
-      past-frame frames place f is over ∙ (rw (none, rounds) refl) in
+    past-frame frames place f is over ∙ (rw (none, rounds) refl) in
     rw at (at-start (place.number + 1) (place.offset + f.ticks) (frames ++ repeated r frames) ∙ sym before)
 
 -- where items are left the place stands within the frames

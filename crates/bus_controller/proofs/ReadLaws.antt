@@ -1,8 +1,7 @@
 -- An answer is read by its first 34 slots: one with more is bad either way, since none that is due has more than 33.
-use Rattle.std.proofs.Common.{◌≡◌, ℕ, zero, suc, ◌+◌, ◌-◌, ◌<◌, ◌≤◌, ◌==◌, nat_lt, true, false, Bool, ◌&&◌, List, [], ◌∷◌, ◌++◌, length, take, filter_map, Option, Some, None, refl, sym, ap, ◌∙◌, arith, inl, inr, ◌⊎◌, min}
+use Rattle.std.proofs.Common.{◌≡◌, ℕ, zero, suc, ◌<◌, ◌≤◌, ◌==◌, ◌&&◌, List, [], ◌∷◌, length, take, filter_map, Option, Some, None, refl, sym, ap, ◌∙◌, arith, inl, inr, min}
 use Rattle.std.specs.List.{cons_option}
 use Rattle.std.proofs.lemmas.Bool.{cases_Bool, cases_lt}
-use Rattle.std.proofs.lemmas.Bool.Decides.{nat_tests}
 use Rattle.std.proofs.lemmas.List.{take_all, length-take}
 use Rattle.bus_base.specs.declared.samples.Part.{Part}
 use Rattle.bus_base.specs.declared.samples.Part.TheVariants as parts
@@ -10,15 +9,13 @@ use Rattle.bus_words.specs.declared.word.Word.{Word}
 use Rattle.bus_words.specs.declared.word.Sync.{Sync}
 use Rattle.bus_words.specs.declared.word.Sync.TheVariants.{Command, Datum}
 use Rattle.bus_formats.specs.Accepted.{HasKindRanges}
-use Rattle.bus_formats.specs.Codes.{dynamic_bus_control, transmit_status_word, transmit_last_command, carried}
+use Rattle.bus_formats.specs.Codes.{dynamic_bus_control, transmit_status_word, carried}
 use Rattle.bus_formats.specs.Forms.{answers_of, answer_of, mode_count}
-use Rattle.bus_formats.specs.Readings.{command_with, datum_with, command_in, datum_in, data_in, word_before, status_in, status_from, status_alone, status_full, status_before, bad_reply, read_by, read_shape, read_answer, shape_in}
+use Rattle.bus_formats.specs.Readings.{command_with, datum_with, command_in, datum_in, data_in, word_before, status_alone, status_full, status_before, bad_reply, read_by, read_shape, read_answer, shape_in}
 use Rattle.bus_formats.specs.declared.form.Shape.{Shape}
 use Rattle.bus_formats.specs.declared.form.Carries.{Carries}
 use Rattle.bus_formats.specs.declared.form.Carries.TheVariants.{Nothing, FromTerminal, ToTerminal}
-use Rattle.bus_formats.specs.declared.form.Outcome.TheVariants.{BadReply}
-use Rattle.bus_formats.specs.declared.form.Reading.{Reading}
-use Rattle.bus_formats.specs.declared.form.Reading.TheVariants.{Good, Ends}
+use Rattle.bus_formats.specs.declared.form.Reading.TheVariants.{Good}
 use Rattle.bus_formats.specs.declared.plan.Kind.{Kind}
 use Rattle.bus_formats.specs.declared.plan.Kind.TheVariants.{Receive, Transmit, Relay, Mode}
 use Rattle.bus_model.specs.Attempts.{kept_words}
@@ -144,7 +141,7 @@ good-shape part kind None slot slots rest status w datum h = bad-good part statu
 good-shape part kind (Some shape) slot slots rest status w datum h =
     let none : command_in slot ≡ None = datum-none slot w datum in
     let is : read_shape part kind (Some shape) (slot ∷ slots) rest ≡ bad_reply part =
-      rw (alone-none shape slot slots rest none, full-none shape slot slots rest none) (none-bad part kind) in
+    rw (alone-none shape slot slots rest none, full-none shape slot slots rest none) (none-bad part kind) in
     bad-good part status (sym is ∙ h)
 
 filtered-few : (slots : List (Option Word)) → length (filter_map datum_in slots) ≤ length slots

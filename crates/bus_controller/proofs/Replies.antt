@@ -1,17 +1,14 @@
 -- What is heard of an answer on one channel, at every lag.
 use Rattle.std.proofs.Common.{◌≡◌, ℕ, suc, ◌+◌, ◌-◌, ◌<◌, ◌≤◌, true, false, nat_lt, List, [], ◌∷◌, length, Option, Some, None, refl, sym, ap, ◌∙◌, arith, inl, inr, ◌⊎◌}
 use Rattle.std.proofs.lemmas.Bool.{cases_lt, cases_Bool, lt-ltb, le-ltb}
-use Rattle.std.proofs.lemmas.Bool.Decides.{nat_tests}
 use Rattle.bus_base.specs.Samples.{is_quiet}
 use Rattle.bus_base.specs.declared.samples.Sample.{Sample}
 use Rattle.bus_base.specs.declared.samples.Sample.TheVariants.{Plus, Minus, Quiet}
 use Rattle.bus_line.specs.Past.{first_heard, end_since, heard_or_now, Burst, burst_from, quiet}
-use Rattle.bus_line.specs.Bursts.{IsEndSince}
-use Rattle.bus_line.proofs.PastLaws.{quiet-le}
 use Rattle.bus_line.proofs.EndLaws.{end_since-stays, end_since-is}
 use Rattle.bus_line.proofs.SlotLaws.{burst_from-more}
 use Rattle.bus_formats.specs.Times.{no_response}
-use Rattle.bus_model.specs.Controller.{Reply, silence, awaited, running, whole, reply, reply_from, reply_until}
+use Rattle.bus_model.specs.Controller.{silence, awaited, running, whole, reply}
 
 pub cases-option : (o : Option ℕ) → (o ≡ None) ⊎ ((e : ℕ) × (o ≡ Some e))
 cases-option None = inl refl
@@ -122,4 +119,4 @@ reply-stays k x past e burst h =
     let from : w.first ≤ w.end = is.from in
     let same : burst_from (x ∷ past) w.first (w.end - w.first) ≡ burst_from past w.first (w.end - w.first) = burst_from-more x past w.first (w.end - w.first) (omega (arith, known, from)) in
     reply-whole k (x ∷ past) e w.first w.end (first-stays x past e w.first w.heard) w.soon (end_since-stays k x past w.first w.end w.ended)
-      ∙ ap whole (same ∙ sym w.is)
+    ∙ ap whole (same ∙ sym w.is)

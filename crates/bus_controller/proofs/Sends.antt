@@ -1,24 +1,23 @@
 -- A command is sent, and its end becomes known.
-use Rattle.std.proofs.Common.{◌≡◌, ℕ, suc, ◌+◌, ◌-◌, ◌<◌, ◌≤◌, min, nat_le, true, false, List, [], ◌∷◌, ◌++◌, length, Option, Some, None, refl, sym, ap, ◌∙◌, arith, inl, inr, ◌⊎◌}
+use Rattle.std.proofs.Common.{◌≡◌, ℕ, suc, ◌+◌, ◌-◌, ◌≤◌, min, nat_le, true, false, List, ◌∷◌, length, Option, Some, None, refl, sym, ap, ◌∙◌, arith, inl, inr}
 use Rattle.std.proofs.lemmas.Bool.{cases_Bool}
 use Rattle.std.proofs.lemmas.Bool.Decides.{nat_tests}
-use Rattle.bus_base.specs.Samples.{is_quiet, sample_on}
+use Rattle.bus_base.specs.Samples.{sample_on}
 use Rattle.bus_base.specs.declared.samples.Sample.{Sample}
 use Rattle.bus_base.specs.declared.samples.Sample.TheVariants.{Plus, Minus, Quiet}
 use Rattle.bus_base.specs.declared.samples.Pair.{Pair}
-use Rattle.bus_line.specs.Past.{quiet, end_since, end_or_now, runs, first_heard}
-use Rattle.bus_line.specs.Channels.{on_channel}
-use Rattle.bus_line.proofs.PastLaws.{quiet-le, rests-from}
+use Rattle.bus_line.specs.Past.{quiet, end_since}
+use Rattle.bus_line.proofs.PastLaws.{rests-from}
 use Rattle.bus_line.proofs.EndLaws.{end_since-now}
 use Rattle.bus_formats.specs.Forms.{answers_of}
 use Rattle.bus_formats.specs.declared.form.Shape.{Shape}
 use Rattle.bus_formats.specs.declared.form.Outcome.TheVariants.{Sent}
-use Rattle.bus_model.specs.Attempts.{Begun, without_words}
-use Rattle.bus_model.specs.Controller.{ending_now, awaited, reply}
+use Rattle.bus_model.specs.Attempts.{without_words}
+use Rattle.bus_model.specs.Controller.{awaited, reply}
 use Rattle.bus_model.specs.Course.{Course}
 use Rattle.bus_controller.specs.Moments.{moment_of}
 use Rattle.bus_controller.specs.Steps.{from_sending, quiet_more, command_ended, expects}
-use Rattle.bus_controller.specs.Stands.{own, AttemptStands, SendingStands, ExpectingStands, IsAwaited, NextStands}
+use Rattle.bus_controller.specs.Stands.{own, SendingStands, IsAwaited, NextStands}
 use Rattle.bus_controller.specs.declared.sending.Sending.{Sending}
 use Rattle.bus_controller.specs.declared.states.ControllerState.TheVariants as states
 use Rattle.bus_controller.proofs.Moments.{length-on}
@@ -99,7 +98,7 @@ module _ (k : ℕ) (c : Course) (shown : Pair) (past : List Pair) (small : k ≤
   closes-by many (Some shape) expected =
       let known = awaits many in
       let is : reply k (own s.begun (shown ∷ past)) (length past - k) ≡ awaited =
-          reply-awaited k (own s.begun (shown ∷ past)) (length past - k) known.1.none known.1.soon in
+      reply-awaited k (own s.begun (shown ∷ past)) (length past - k) known.1.none known.1.soon in
       rw expected (going-stands k c shown past s.agenda s.begun (states.Expecting (expects k s.agenda s.begun None (moment_of k shown past))) st.attempt (rw (ended many, expected, is) refl) record {
         attempt = runs-on k c shown past s.agenda s.begun st.attempt;
         awaits = record { ended = ended many; shape = shape; expected = expected };

@@ -1,25 +1,21 @@
 -- Each state that stands for a course and a past gives one that stands for it a tick later, and tells what ended.
-use Rattle.std.proofs.Common.{◌≡◌, ℕ, suc, ◌+◌, ◌-◌, ◌<◌, ◌≤◌, ◌==◌, nat_le, nat_lt, Bool, true, false, not, ◌&&◌, if◌then◌else◌, List, [], ◌∷◌, ◌++◌, length, Option, Some, None, refl, sym, ap, ◌∙◌, arith, inl, inr, ◌⊎◌}
-use Rattle.std.specs.Prelude.{option_map}
-use Rattle.std.proofs.lemmas.Bool.{cases_Bool, cases_lt, cases_eq, le-ltb, lt-ltb}
+use Rattle.std.proofs.Common.{◌≡◌, ℕ, suc, ◌+◌, ◌-◌, ◌<◌, ◌≤◌, nat_le, Bool, true, false, if◌then◌else◌, List, [], ◌∷◌, length, Option, Some, None, refl, ◌∙◌, arith, inl, inr}
+use Rattle.std.proofs.lemmas.Bool.{cases_Bool, cases_lt, cases_eq}
 use Rattle.std.proofs.lemmas.Bool.Decides.{nat_tests}
 use Rattle.bus_base.specs.Samples.{is_quiet, sample_on}
 use Rattle.bus_base.specs.declared.samples.Channel.{Channel}
 use Rattle.bus_base.specs.declared.samples.Channel.TheVariants.{A, B}
-use Rattle.bus_base.specs.declared.samples.Sample.{Sample}
 use Rattle.bus_base.specs.declared.samples.Sample.TheVariants.{Quiet}
 use Rattle.bus_base.specs.declared.samples.Pair.{Pair}
 use Rattle.bus_words.specs.declared.word.Word.{Word}
-use Rattle.bus_line.specs.Past.{quiet, end_of, rest_of}
+use Rattle.bus_line.specs.Past.{quiet, rest_of}
 use Rattle.bus_line.specs.Channels.{on_channel}
 use Rattle.bus_line.specs.Cutting.{cut_now}
-use Rattle.bus_line.specs.declared.cutter.Cut.{Cut}
-use Rattle.bus_line.specs.declared.cutter.Cut.TheVariants as cuts
 use Rattle.bus_line.proofs.PastLaws.{runs-parts}
 use Rattle.bus_line.proofs.TickLaws.{quiet-sample}
 use Rattle.bus_formats.specs.Times.{no_response}
 use Rattle.bus_formats.specs.declared.form.Outcome.TheVariants as outcomes
-use Rattle.bus_model.specs.Attempts.{Begun, without_words}
+use Rattle.bus_model.specs.Attempts.{without_words}
 use Rattle.bus_model.specs.Controller.{reply, awaited, silence, running, ending_now}
 use Rattle.bus_model.specs.Course.{Course, runs_next, run_on}
 use Rattle.bus_controller.specs.Moments.{moment_of, cut_on}
@@ -40,7 +36,7 @@ use Rattle.bus_controller.proofs.Closing.{runs-on, going-stands, closes-stands}
 use Rattle.bus_controller.proofs.Replies.{reply-awaited, reply-running}
 use Rattle.bus_controller.proofs.Sends.{sending-hears}
 use Rattle.bus_controller.proofs.Doubts.{doubting-hears}
-use Rattle.bus_controller.proofs.Expects.{awaits-more, begins-running, PulseCut, plain, slot, pulse-cut, HasEnded, has-ended, quiet-awaited, quiet-silence, quiet-running}
+use Rattle.bus_controller.proofs.Expects.{awaits-more, begins-running, plain, slot, pulse-cut, HasEnded, has-ended, quiet-awaited, quiet-silence, quiet-running}
 use Rattle.bus_controller.proofs.AnswerLaws.{ending_with, ending-by, awaited-none, unanswered, silence-ends, running-ends, first-read, second-read}
 
 -- what becomes known of an attempt's channel
@@ -70,7 +66,7 @@ module _ (k : ℕ) (small : k ≤ 3) (c : Course) (shown : Pair) (past : List Pa
     awaits-on none a =
         let is : reply k (own s.begun (shown ∷ past)) s.end.0 ≡ awaited = reply-awaited k (own s.begun (shown ∷ past)) s.end.0 a.none a.soon in
         going-stands k c shown past s.agenda s.begun (states.Expecting s) st
-          (ending-by k s.begun (shown ∷ past) s.first s.end.0 awaits ∙ (rw is (awaited-none k s.begun.entry.item (shown ∷ past) (own s.begun (shown ∷ past)) s.end.0 s.first))) record {
+        (ending-by k s.begun (shown ∷ past) s.first s.end.0 awaits ∙ (rw is (awaited-none k s.begun.entry.item (shown ∷ past) (own s.begun (shown ∷ past)) s.end.0 s.first))) record {
           attempt = runs-on k c shown past s.agenda s.begun st;
           awaits = awaits;
           known = omega (arith, known);
@@ -80,7 +76,7 @@ module _ (k : ℕ) (small : k ≤ 3) (c : Course) (shown : Pair) (past : List Pa
     gives-up : reply k (own s.begun (shown ∷ past)) s.end.0 ≡ silence → NextStands k c shown past (closes s.agenda s.begun (no_answer s s.first) (moment_of k shown past))
     gives-up is =
         rw (no_answer-is s s.first) (closes-stands k c shown past s.agenda s.begun (unanswered s.first) st
-          (ending-by k s.begun (shown ∷ past) s.first s.end.0 awaits ∙ (rw is (silence-ends k s.begun.entry.item (shown ∷ past) (own s.begun (shown ∷ past)) s.end.0 s.first))))
+        (ending-by k s.begun (shown ∷ past) s.first s.end.0 awaits ∙ (rw is (silence-ends k s.begun.entry.item (shown ∷ past) (own s.begun (shown ∷ past)) s.end.0 s.first))))
 
     silent-stands : s.answer ≡ None → sample_on shown s.begun.state.channel ≡ Quiet → IsAwaited k (own s.begun past) s.end.0 → NextStands k c shown past (silent s (moment_of k shown past))
     silent-stands none q a =
@@ -100,18 +96,18 @@ module _ (k : ℕ) (small : k ≤ 3) (c : Course) (shown : Pair) (past : List Pa
         let long = here in
         let is : reply k (own s.begun (shown ∷ past)) s.end.0 ≡ running = reply-running k (own s.begun (shown ∷ past)) s.end.0 r.first r.heard r.soon r.going in
         let runs : ending_with k s.begun.entry.item (shown ∷ past) (own s.begun (shown ∷ past)) s.end.0 s.first running
-            ≡ (if is_abandoned s (moment_of k shown past) then Some (without_words outcomes.Abandoned None None) else None) =
-            rw long at (running-ends k s.begun.entry.item (shown ∷ past) (sample_on shown s.begun.state.channel) (own s.begun past) s.end.0 s.first (omega (arith, known, long))) in
+        ≡ (if is_abandoned s (moment_of k shown past) then Some (without_words outcomes.Abandoned None None) else None) =
+        rw long at (running-ends k s.begun.entry.item (shown ∷ past) (sample_on shown s.begun.state.channel) (own s.begun past) s.end.0 s.first (omega (arith, known, long))) in
         let ends : ending_now k s.begun (shown ∷ past) ≡ (if is_abandoned s (moment_of k shown past) then Some (without_words outcomes.Abandoned None None) else None) =
-            ending-by k s.begun (shown ∷ past) s.first s.end.0 awaits ∙ (rw is runs) in
+        ending-by k s.begun (shown ∷ past) s.first s.end.0 awaits ∙ (rw is runs) in
         elim (cases_Bool (is_abandoned s (moment_of k shown past))) [
           | inl given ↦ rw given (closes-stands k c shown past s.agenda s.begun (without_words outcomes.Abandoned None None) st (ends ∙ (rw given refl)))
           | inr on ↦ rw on (going-stands k c shown past s.agenda s.begun (states.Expecting (record s { answer = Some record { items = slots } })) st (ends ∙ (rw on refl)) record {
-              attempt = runs-on k c shown past s.agenda s.begun st;
-              awaits = awaits;
-              known = omega (arith, known);
-              answer = r;
-            })
+            attempt = runs-on k c shown past s.agenda s.begun st;
+            awaits = awaits;
+            known = omega (arith, known);
+            answer = r;
+          })
         ]
 
     -- one ended
@@ -144,8 +140,8 @@ module _ (k : ℕ) (small : k ≤ 3) (c : Course) (shown : Pair) (past : List Pa
     begun-stands none a =
         let at = here in
         by_test (λ n. NextStands k c shown past n) (is_quiet (sample_on shown s.begun.state.channel)) (silent s (moment_of k shown past)) (runs_on s [] (moment_of k shown past))
-          (λ q. silent-stands none (quiet-sample (sample_on shown s.begun.state.channel) q) a)
-          (λ p. running-stands [] (begins-running k small (own s.begun past) s.end.0 (sample_on shown s.begun.state.channel) a (omega (arith, known, at)) p))
+        (λ q. silent-stands none (quiet-sample (sample_on shown s.begun.state.channel) q) a)
+        (λ p. running-stands [] (begins-running k small (own s.begun past) s.end.0 (sample_on shown s.begun.state.channel) a (omega (arith, known, at)) p))
 
     cuts-stand : (slots : List (Option Word)) → IsRunning k (own s.begun past) s.end.0 slots → NextStands k c shown past (hears k s (moment_of k shown past) (Some slots))
     cuts-stand slots r = rw (cut-is k shown past s.begun.state.channel) (cut-stands slots r)
@@ -170,12 +166,12 @@ module _ (k : ℕ) (small : k ≤ 3) (c : Course) (shown : Pair) (past : List Pa
   holding-hears : (s : Holding) → HoldingStands c past s → NextStands k c shown past (from_holding s (moment_of k shown past))
   holding-hears s st =
       waiting-stands s.agenda s.opening _ st.waits st.none
-        (waits-stand c (shown ∷ past) k s.agenda s.opening (wait-more c past shown s.agenda s.opening st.waits st.none))
+      (waits-stand c (shown ∷ past) k s.agenda s.opening (wait-more c past shown s.agenda s.opening st.waits st.none))
 
   settling-hears : (s : Settling) → SettlingStands c past s → NextStands k c shown past (from_settling s (moment_of k shown past))
   settling-hears s st =
       waiting-stands s.agenda (openings.Usual 40) _ st.waits st.none
-        (waits-stand c (shown ∷ past) k s.agenda (openings.Usual 40) (wait-more c past shown s.agenda (openings.Usual 40) st.waits st.none))
+      (waits-stand c (shown ∷ past) k s.agenda (openings.Usual 40) (wait-more c past shown s.agenda (openings.Usual 40) st.waits st.none))
 
   yielded-hears : (s : Yielded) → YieldedStands c s → NextStands k c shown past (from_yielded s)
   yielded-hears s st =

@@ -1,26 +1,22 @@
 -- Between messages: the states that wait for the next attempt, and its beginning.
-use Rattle.std.proofs.Common.{◌≡◌, ℕ, suc, ◌+◌, ◌-◌, ◌<◌, ◌≤◌, min, Bool, true, false, ◌==◌, nat_lt, ◌&&◌, List, [], ◌∷◌, ◌++◌, length, Option, Some, None, refl, sym, ap, ◌∙◌, arith, inl, inr, ◌⊎◌}
+use Rattle.std.proofs.Common.{◌≡◌, ℕ, suc, ◌-◌, ◌<◌, ◌≤◌, true, false, ◌==◌, List, [], ◌∷◌, length, Some, None, refl, sym, ap, ◌∙◌, arith, inl, inr, ◌⊎◌}
 use Rattle.std.specs.Prelude.{All, slice_get, option_map}
 use Rattle.std.proofs.lemmas.Bool.{cases_Bool}
 use Rattle.std.proofs.lemmas.Bool.Decides.{nat_tests}
 use Rattle.std.proofs.lemmas.List.Elements.{All-get_or}
 use Rattle.bus_base.specs.declared.samples.Pair.{Pair}
-use Rattle.bus_line.specs.Past.{quiet, end_since}
 use Rattle.bus_line.specs.Channels.{on_channel, quiet_both, both_quiet}
 use Rattle.bus_line.proofs.EndLaws.{end_since-early}
 use Rattle.bus_formats.specs.Accepted.{HasItemRanges}
 use Rattle.bus_model.specs.Waits.{settling_quiet}
 use Rattle.bus_model.specs.Starts.{Entry, Opening, usual, superseding, taking, start_of, state_of}
 use Rattle.bus_model.specs.Attempts.{Begun}
-use Rattle.bus_model.specs.Course.{Course, runs_next, run_on, quiet_from, begin_entry}
-use Rattle.bus_controller.specs.Queue.{due_of}
-use Rattle.bus_controller.specs.Agendas.{AgendaData, is_due, is_due_of, is_unsettled, begun_by, state_by}
-use Rattle.bus_controller.specs.Steps.{sends, begins, begins_with, waits, may_start}
-use Rattle.bus_controller.specs.Stands.{agenda_of, AgendaStands, AttemptStands, SendingStands, OpeningStands, WaitStands, HoldingStands, SettlingStands, StateStands}
+use Rattle.bus_model.specs.Course.{Course, runs_next, quiet_from}
+use Rattle.bus_controller.specs.Agendas.{AgendaData, is_due, is_unsettled, begun_by}
+use Rattle.bus_controller.specs.Steps.{sends, begins, waits}
+use Rattle.bus_controller.specs.Stands.{agenda_of, AgendaStands, SendingStands, OpeningStands, WaitStands, SettlingStands, StateStands}
 use Rattle.bus_controller.specs.declared.opening.Opening.{Opening as Wait}
 use Rattle.bus_controller.specs.declared.opening.Opening.TheVariants as openings
-use Rattle.bus_controller.specs.declared.holding.Holding.{Holding}
-use Rattle.bus_controller.specs.declared.states.ControllerState.{ControllerState}
 use Rattle.bus_controller.specs.declared.states.ControllerState.TheVariants as states
 use Rattle.bus_controller.proofs.Moments.{length-on, quiet_both-le}
 use Rattle.bus_controller.proofs.Openings.{due-now, state-same, later-due, opening-more, unsettled-none}
@@ -79,26 +75,26 @@ module _ (c : Course) (past : List Pair) where
   begins-stand k opening w [] e =
       let fails : is_due opening (agenda_of c) (quiet_both past) (length past) ≡ false = rw e refl in
       let is : begins record { agenda = agenda_of c; opening = opening; quiet = quiet_both past } (length past)
-          ≡ states.Holding record { agenda = agenda_of c; opening = opening; quiet = quiet_both past } = rw fails refl in
+      ≡ states.Holding record { agenda = agenda_of c; opening = opening; quiet = quiet_both past } = rw fails refl in
       rw is record { waits = w; none = none-left w.runs w.holds e }
   begins-stand k opening w (entry ∷ later) e =
       let within : quiet_both past ≤ length past = quiet_both-le past in
       let due : is_due opening (agenda_of c) (quiet_both past) (length past) ≡ (start_of c.opening c.retry c.origin entry (quiet_from past) == length past) =
-          rw e (due-now opening c.opening record { left = entry ∷ later; live = c.live; retry = c.retry; origin = c.origin } entry (length past) (quiet_both past) w.opens within (w.due entry later e)) in
+      rw e (due-now opening c.opening record { left = entry ∷ later; live = c.live; retry = c.retry; origin = c.origin } entry (length past) (quiet_both past) w.opens within (w.due entry later e)) in
       elim (cases_Bool (start_of c.opening c.retry c.origin entry (quiet_from past) == length past)) [
         | inr fails ↦ (
             let is : begins record { agenda = agenda_of c; opening = opening; quiet = quiet_both past } (length past)
-                ≡ states.Holding record { agenda = agenda_of c; opening = opening; quiet = quiet_both past } = rw (due, fails) refl in
+            ≡ states.Holding record { agenda = agenda_of c; opening = opening; quiet = quiet_both past } = rw (due, fails) refl in
             rw is record { waits = w; none = none-due entry later w.runs w.holds e fails })
         | inl now ↦ (
             let begun : option_map (begun_by opening (agenda_of c) (length past)) (slice_get c.left 0)
-                ≡ Some record { entry = entry; state = state_of c.opening c.retry entry c.live; start = length past } =
-                rw (e, state-same opening c.opening record { left = entry ∷ later; live = c.live; retry = c.retry; origin = c.origin } entry (length past) w.opens) refl in
+            ≡ Some record { entry = entry; state = state_of c.opening c.retry entry c.live; start = length past } =
+            rw (e, state-same opening c.opening record { left = entry ∷ later; live = c.live; retry = c.retry; origin = c.origin } entry (length past) w.opens) refl in
             let is : begins record { agenda = agenda_of c; opening = opening; quiet = quiet_both past } (length past)
-                ≡ states.Sending (sends (agenda_of c, record { entry = entry; state = state_of c.opening c.retry entry c.live; start = length past })) =
-                rw (due, now, begun) refl in
+            ≡ states.Sending (sends (agenda_of c, record { entry = entry; state = state_of c.opening c.retry entry c.live; start = length past })) =
+            rw (due, now, begun) refl in
             rw is (sends-stand k entry later record { entry = entry; state = state_of c.opening c.retry entry c.live; start = length past }
-              w.keeps w.holds e (some-due entry later w.runs w.holds e now) refl refl))
+            w.keeps w.holds e (some-due entry later w.runs w.holds e now) refl refl))
       ]
 
   -- ---- the channels settle

@@ -1,7 +1,7 @@
 -- A controller over all that it heard: what it drives, what it has left, and where it takes control.
-use Rattle.std.proofs.Common.{◌≡◌, ℕ, zero, suc, ◌+◌, ◌-◌, ◌*◌, ◌/◌, ◌%◌, ◌<◌, ◌≤◌, ◌==◌, nat_lt, min, Bool, true, false, not, ◌&&◌, if◌then◌else◌, List, [], ◌∷◌, ◌++◌, map, length, Option, Some, None, is_none, refl, sym, ap, ◌∙◌, arith, inl, inr}
-use Rattle.std.specs.Prelude.{All, slice_get, option_to_list, ⊤}
-use Rattle.std.proofs.lemmas.Bool.{cases_lt, cases_Bool}
+use Rattle.std.proofs.Common.{◌≡◌, ℕ, zero, suc, ◌+◌, ◌-◌, ◌/◌, ◌<◌, ◌≤◌, ◌==◌, min, Bool, true, false, not, ◌&&◌, if◌then◌else◌, List, [], ◌∷◌, ◌++◌, length, Option, Some, None, is_none, refl, sym, ap, ◌∙◌, arith, inl, inr}
+use Rattle.std.specs.Prelude.{All}
+use Rattle.std.proofs.lemmas.Bool.{cases_lt}
 use Rattle.std.proofs.lemmas.Bool.Decides.{nat_tests}
 use Rattle.std.proofs.lemmas.List.Elements.{All-nil, All-cons, All-tail, All-append, All-get_or}
 use Rattle.std.proofs.lemmas.List.{length-map}
@@ -13,7 +13,7 @@ use Rattle.bus_base.specs.declared.samples.Pair.{Pair}
 use Rattle.bus_base.specs.declared.samples.Tick.{Tick}
 use Rattle.bus_base.specs.declared.samples.Drive.TheVariants.{Silent}
 use Rattle.bus_words.specs.declared.word.Word.{Word}
-use Rattle.bus_line.specs.Channels.{on_channel, quiet_both}
+use Rattle.bus_line.specs.Channels.{quiet_both}
 use Rattle.bus_formats.specs.Accepted.{HasKindRanges, HasItemRanges, HasFrameRanges}
 use Rattle.bus_formats.specs.Forms.{command_words, data_word}
 use Rattle.bus_formats.specs.Plans.{ItemData, FrameData, StationData}
@@ -21,11 +21,11 @@ use Rattle.bus_formats.specs.declared.plan.Kind.{Kind}
 use Rattle.bus_formats.specs.declared.plan.Kind.TheVariants.{Receive, Transmit, Relay, Mode}
 use Rattle.bus_model.specs.Starts.{Entry, entries_in, entries_from, repeated, has_items, planned_at}
 use Rattle.bus_model.specs.Attempts.{Begun}
-use Rattle.bus_model.specs.Sending.{drive_sample, drive_word}
+use Rattle.bus_model.specs.Sending.{drive_sample}
 use Rattle.bus_model.specs.Course.{Take, Course, course, runs_next, run_on, with_takes, take_control, drive_course, at_first}
 use Rattle.bus_controller.specs.Agendas.{AgendaData}
 use Rattle.bus_controller.specs.Steps.{driven_by, left_of, serves, taken_by}
-use Rattle.bus_controller.specs.Stands.{agenda_of, own, AgendaStands, AttemptStands, SendingStands, Awaits, ExpectingStands, StateStands}
+use Rattle.bus_controller.specs.Stands.{own, SendingStands, Awaits, ExpectingStands, StateStands}
 use Rattle.bus_controller.specs.ControllerStands.{NoneLater}
 use Rattle.bus_controller.specs.declared.sending.Sending.{Sending}
 use Rattle.bus_controller.specs.declared.expecting.Expecting.{Expecting}
@@ -82,9 +82,9 @@ course-taken k station starts takes first [] = with_takes-push takes record { he
 course-taken k station starts takes first (shown ∷ past) =
     let now : (suc (length past) == suc (length past)) ≡ true = grind (arith, nat_tests) in
     let before : course k station starts (takes ++ record { heard = suc (length past); first = first } ∷ []) past ≡ course k station starts takes past =
-        not-yet k station starts takes record { heard = suc (length past); first = first } past (omega arith) in
+    not-yet k station starts takes record { heard = suc (length past); first = first } past (omega arith) in
     rw before (with_takes-push takes record { heard = suc (length past); first = first } (suc (length past))
-        (run_on k shown past (course k station starts takes past) (runs_next past (course k station starts takes past))) ∙ (rw now refl))
+    (run_on k shown past (course k station starts takes past) (runs_next past (course k station starts takes past))) ∙ (rw now refl))
 
 -- ---- what is left, and who holds control
 
@@ -150,7 +150,7 @@ module _ (k : ℕ) (c : Course) (past : List Pair) where
       let here = length-on s.begun.state.channel past in
       let words = command-few s.begun.entry.item.kind st.attempt.item.kind in
       let is : drive_course k past c ≡ drive_sample s.begun.state.channel Command (command_words s.begun.entry.item.kind) (length past - s.begun.start) =
-          rw (st.attempt.runs, st.going, here) refl in
+      rw (st.attempt.runs, st.going, here) refl in
       rw (st.burst, st.sent) (sample-same s.begun.state.channel Command (command_words s.begun.entry.item.kind) (length past - s.begun.start) words ∙ sym is)
 
   expecting-drives : (s : Expecting) → ExpectingStands k c past s → (first : Option ℕ) → Awaits k (own s.begun past) s.begun first s.end.0 → Silent ≡ drive_course k past c
@@ -188,15 +188,15 @@ ranges-in : (frame offset place : ℕ) (items : List ItemData) → All HasItemRa
 ranges-in frame offset place [] ranges = All-nil (λ (e : Entry). HasItemRanges e.item)
 ranges-in frame offset place (item ∷ items) ranges =
     All-cons (λ (e : Entry). HasItemRanges e.item) record { frame = frame; place = place; offset = offset; item = item } (entries_in frame offset (place + 1) items)
-      (All-get_or HasItemRanges (item ∷ items) 0 item (omega arith) ranges)
-      (ranges-in frame offset (place + 1) items (All-tail HasItemRanges item items ranges))
+    (All-get_or HasItemRanges (item ∷ items) 0 item (omega arith) ranges)
+    (ranges-in frame offset (place + 1) items (All-tail HasItemRanges item items ranges))
 
 ranges-from : (number offset : ℕ) (frames : List FrameData) → All HasFrameRanges frames → All (λ (e : Entry). HasItemRanges e.item) (entries_from number offset frames)
 ranges-from number offset [] ranges = All-nil (λ (e : Entry). HasItemRanges e.item)
 ranges-from number offset (f ∷ later) ranges =
     All-append (λ (e : Entry). HasItemRanges e.item) (entries_in number offset 1 f.items) (entries_from (number + 1) (offset + f.ticks) later)
-      (ranges-in number offset 1 f.items (All-get_or HasFrameRanges (f ∷ later) 0 f (omega arith) ranges).items)
-      (ranges-from (number + 1) (offset + f.ticks) later (All-tail HasFrameRanges f later ranges))
+    (ranges-in number offset 1 f.items (All-get_or HasFrameRanges (f ∷ later) 0 f (omega arith) ranges).items)
+    (ranges-from (number + 1) (offset + f.ticks) later (All-tail HasFrameRanges f later ranges))
 
 ranges-repeated : (n : ℕ) (frames : List FrameData) → All HasFrameRanges frames → All HasFrameRanges (repeated n frames)
 ranges-repeated zero frames ranges = All-nil HasFrameRanges

@@ -1,5 +1,5 @@
 -- Data words that are kept one after the other.
-use Rattle.std.proofs.Common.{◌≡◌, ℕ, suc, ◌+◌, ◌<◌, ◌≤◌, List, [], ◌∷◌, ◌++◌, length, take, get_or, filter_map, Option, Some, None, refl, sym, ap, ◌∙◌, arith, inl, inr, min, Bool, true, false, IsTrue, ◌↔◌}
+use Rattle.std.proofs.Common.{◌≡◌, ℕ, ◌+◌, ◌<◌, ◌≤◌, List, [], ◌∷◌, ◌++◌, length, take, get_or, filter_map, Option, refl, sym, ap, ◌∙◌, arith, inl, inr, min, Bool, true, false, IsTrue, ◌↔◌}
 use Rattle.std.proofs.lemmas.Bool.{cases_lt}
 use Rattle.std.proofs.lemmas.List.{take_more, take-append-le, take_all, length-take, append-nil, length-append}
 use Rattle.std.proofs.lemmas.List.Elements.{filter_map-append}
@@ -11,8 +11,8 @@ take-again {X} n xs ys = elim (cases_lt n (length xs)) [
   | inl many ↦ (
       let long : length (take n xs) ≡ min n (length xs) = length-take n xs in
       take-append-le n (take n xs) ys (omega (arith, long, many))
-        ∙ take_all n (take n xs) (omega (arith, long))
-        ∙ sym (take-append-le n xs ys (omega (arith, many))))
+      ∙ take_all n (take n xs) (omega (arith, long))
+      ∙ sym (take-append-le n xs ys (omega (arith, many))))
 ]
 
 -- one element more
@@ -21,7 +21,7 @@ pub keeps-more : {X : Type 0} (f : X → Option ℕ) (n : ℕ) (xs : List X) (i 
 keeps-more {X} f n xs i x within is =
     let more : take (i + 1) xs ≡ take i xs ++ x ∷ [] = take_more xs i x within ∙ ap (λ y. take i xs ++ y ∷ []) (sym is) in
     take-again n (filter_map f (take i xs)) (filter_map f (x ∷ []))
-      ∙ ap (take n) (sym (filter_map-append f (take i xs) (x ∷ [])) ∙ ap (filter_map f) (sym more))
+    ∙ ap (take n) (sym (filter_map-append f (take i xs) (x ∷ [])) ∙ ap (filter_map f) (sym more))
 
 pub take-room : {X : Type 0} (n : ℕ) (xs : List X) (x : X) → length xs < n → take n (xs ++ x ∷ []) ≡ xs ++ x ∷ []
 take-room {X} n xs x room = take_all n (xs ++ x ∷ []) (let long : length (xs ++ x ∷ []) ≡ length xs + 1 = length-append xs (x ∷ []) in omega (arith, long, room))
@@ -39,7 +39,7 @@ pub keeps-at : {X : Type 0} (f : X → Option ℕ) (n : ℕ) (xs : List X) (i : 
     take n (words ++ filter_map f (get_or xs i d ∷ [])) ≡ take n (filter_map f (take (i + 1) xs))
 keeps-at {X} f n xs i d words within are =
     rw are (take-again n (filter_map f (take i xs)) (filter_map f (get_or xs i d ∷ []))
-      ∙ ap (take n) (sym (filter_map-append f (take i xs) (get_or xs i d ∷ [])) ∙ ap (filter_map f) (sym (take_more xs i d within))))
+    ∙ ap (take n) (sym (filter_map-append f (take i xs) (get_or xs i d ∷ [])) ∙ ap (filter_map f) (sym (take_more xs i d within))))
 
 -- a push, where there may be no room
 pub push-is : (old new : List ℕ) (w : ℕ) (r : Bool) → length old ≤ 32 → (IsTrue r ↔ (length old < 32)) → (r ≡ true → new ≡ old ++ w ∷ []) → (r ≡ false → new ≡ old) →

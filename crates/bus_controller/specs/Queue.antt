@@ -1,7 +1,7 @@
 -- The items that a controller has left, from a place in its frames on.
-use Rattle.std.specs.Prelude.{◌≡◌, ℕ, suc, ◌+◌, ◌*◌, ◌<◌, ◌≤◌, Bool, ◌==◌, List, [], ◌∷◌, ◌++◌, length, drop, sum_by, All, slice_get, Option, Some, IfSome}
+use Rattle.std.specs.Prelude.{◌≡◌, ℕ, ◌+◌, ◌*◌, ◌<◌, ◌≤◌, Bool, ◌==◌, List, [], ◌∷◌, ◌++◌, length, drop, sum_by, All, slice_get, Some}
 use Rattle.bus_base.specs.Positions.{IsBetween}
-use Rattle.bus_formats.specs.Plans.{ItemData, FrameData}
+use Rattle.bus_formats.specs.Plans.{FrameData}
 use Rattle.bus_formats.specs.Accepted.{HasFrameRanges}
 use Rattle.bus_model.specs.Starts.{Entry, entries_in, entries_from, repeated}
 use Rattle.bus_controller.specs.declared.place.Place.{Place}

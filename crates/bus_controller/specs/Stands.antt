@@ -1,23 +1,22 @@
 -- For which courses and pasts the states of a controller stand. These records need no belief: they say nothing but what the step of each state keeps.
-use Rattle.std.specs.Prelude.{◌≡◌, ℕ, suc, ◌+◌, ◌-◌, min, ◌<◌, ◌≤◌, Bool, true, false, List, [], ◌∷◌, ◌++◌, length, take, All, Option, Some, None, option_map}
+use Rattle.std.specs.Prelude.{◌≡◌, ℕ, suc, ◌+◌, ◌-◌, min, ◌≤◌, true, false, List, [], ◌∷◌, ◌++◌, length, take, All, Option, Some, None, option_map}
 use Rattle.bus_base.specs.declared.samples.Sample.{Sample}
 use Rattle.bus_base.specs.declared.samples.Pair.{Pair}
 use Rattle.bus_base.specs.declared.samples.Part.{Part}
 use Rattle.bus_base.specs.declared.samples.Part.TheVariants.{First}
 use Rattle.bus_words.specs.declared.word.Word.{Word}
 use Rattle.bus_line.specs.Past.{quiet, runs, first_tick, first_heard, end_since, Burst, end_of, rest_of}
-use Rattle.bus_line.specs.Channels.{on_channel, quiet_both}
+use Rattle.bus_line.specs.Channels.{on_channel}
 use Rattle.bus_line.specs.Cutting.{running_slots}
 use Rattle.bus_formats.specs.Accepted.{HasItemRanges}
 use Rattle.bus_formats.specs.Forms.{command_words, answers_of}
 use Rattle.bus_formats.specs.Readings.{read_answer}
 use Rattle.bus_formats.specs.Times.{no_response}
-use Rattle.bus_formats.specs.Plans.{ItemData}
 use Rattle.bus_formats.specs.declared.form.Shape.{Shape}
 use Rattle.bus_formats.specs.declared.form.Outcome.TheVariants.{BadReply}
 use Rattle.bus_formats.specs.declared.form.Reading.TheVariants.{Good, Ends}
 use Rattle.bus_formats.specs.declared.log.Attempt.{Attempt}
-use Rattle.bus_model.specs.Waits.{doubting, settling_quiet}
+use Rattle.bus_model.specs.Waits.{settling_quiet}
 use Rattle.bus_model.specs.Starts.{Entry, Opening, usual, superseding, taking, start_of}
 use Rattle.bus_model.specs.Attempts.{Begun, is_offer}
 use Rattle.bus_model.specs.Controller.{reply, whole}
@@ -180,4 +179,4 @@ StateStands k c past (states.Yielded s) = YieldedStands c s
 abbrev pub NextStands : ℕ → Course → Pair → List Pair → ControllerNext → Type 0
 NextStands k c shown past next =
     StateStands k (run_on k shown past c (runs_next past c)) (shown ∷ past) next.state
-      × ((run_on k shown past c (runs_next past c)).ended ≡ told next.event ++ c.ended)
+    × ((run_on k shown past c (runs_next past c)).ended ≡ told next.event ++ c.ended)

@@ -1,9 +1,8 @@
 -- The steps of a controller's states, as the code takes them. What they are to mean stands in `Stands`.
-use Rattle.std.specs.Prelude.{ℕ, suc, ◌+◌, ◌-◌, min, Bool, true, false, not, ◌&&◌, ◌==◌, nat_le, nat_lt, if◌then◌else◌, List, [], ◌∷◌, ◌++◌, take, slice_get, Option, Some, None, option_map}
+use Rattle.std.specs.Prelude.{ℕ, ◌+◌, ◌-◌, min, Bool, true, false, not, ◌&&◌, ◌==◌, nat_le, nat_lt, if◌then◌else◌, List, [], ◌∷◌, ◌++◌, take, slice_get, Option, Some, None, option_map}
 use Rattle.bus_base.specs.Samples.{sample_on, is_quiet}
 use Rattle.bus_base.specs.declared.samples.Tick.{Tick}
 use Rattle.bus_base.specs.declared.samples.Sample.{Sample}
-use Rattle.bus_base.specs.declared.samples.Part.{Part}
 use Rattle.bus_base.specs.declared.samples.Part.TheVariants as parts
 use Rattle.bus_base.specs.declared.samples.Drive.{Drive}
 use Rattle.bus_base.specs.declared.samples.Drive.TheVariants.{Silent}
@@ -18,7 +17,6 @@ use Rattle.bus_formats.specs.declared.form.Outcome.{Outcome}
 use Rattle.bus_formats.specs.declared.form.Outcome.TheVariants as outcomes
 use Rattle.bus_formats.specs.declared.form.Reading.{Reading}
 use Rattle.bus_formats.specs.declared.form.Reading.TheVariants as readings
-use Rattle.bus_formats.specs.declared.plan.Kind.{Kind}
 use Rattle.bus_retry.specs.Retries.{next_of}
 use Rattle.bus_model.specs.Waits.{settling_quiet, doubting}
 use Rattle.bus_model.specs.Starts.{Entry, finishes, planned_at}

@@ -65,14 +65,9 @@ impl Agenda {
     {
         Agenda {
             queue: Queue::new(frames, repeat),
-            live: ChannelState {
-                live: channel,
-            },
+            live: ChannelState { live: channel },
             retry: None,
-            origin: Origin {
-                tick: 8,
-                offset: 0,
-            },
+            origin: Origin { tick: 8, offset: 0 },
         }
     }
 

@@ -5,8 +5,8 @@ ghost use Rattle.bus_model.specs.Attempts as spec;
 
 use crate::queue::Entry;
 use bus_base::Tick;
-use bus_formats::{Attempt, Block, Kind, Outcome, datum_in};
 use bus_formats::code::DYNAMIC_BUS_CONTROL;
+use bus_formats::{Attempt, Block, Kind, Outcome, datum_in};
 use bus_retry::RetryState;
 use bus_words::{Status, Word};
 use std::marker::Model;
@@ -49,7 +49,11 @@ impl Model for Ended {
 
 impl Ended {
     /// An ending of which no data words are kept.
-    pub(crate) fn without_words(outcome: Outcome, first: Option<Status>, second: Option<Status>) -> Ended
+    pub(crate) fn without_words(
+        outcome: Outcome,
+        first: Option<Status>,
+        second: Option<Status>,
+    ) -> Ended
         ensures { result ≡ spec.without_words outcome first second }
     {
         Ended {

@@ -66,10 +66,14 @@ impl Controller {
         ensures state { self.new.state ≡ (next_of_state LAG self.old.state moment).state }
         ensures event { result ≡ (next_of_state LAG self.old.state moment).event }
     {
-        core::mem::replace_with(&mut self.state, moment, |state: ControllerState, moment: Moment| {
-            let next = state.hear(moment);
-            (next.state, next.event)
-        })
+        core::mem::replace_with(
+            &mut self.state,
+            moment,
+            |state: ControllerState, moment: Moment| {
+                let next = state.hear(moment);
+                (next.state, next.event)
+            },
+        )
     }
 
     /// What it sends in the tick to come.
@@ -98,9 +102,11 @@ impl Controller {
         ensures receiver { self.new.receiver ≡ self.old.receiver }
         ensures state { self.new.state ≡ taken_by self.old.state first next.0 quiet }
     {
-        core::mem::replace_with(&mut self.state, first, |state: ControllerState, first: Tick| {
-            (state.take(first, next, quiet), ())
-        })
+        core::mem::replace_with(
+            &mut self.state,
+            first,
+            |state: ControllerState, first: Tick| { (state.take(first, next, quiet), ()) },
+        )
     }
 
     /// Whether it has no control.

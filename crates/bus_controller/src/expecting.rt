@@ -38,7 +38,12 @@ pub struct Expecting {
 
 impl Expecting {
     /// The wait for an answer to a burst whose end is known in this tick.
-    pub(crate) fn new(agenda: Agenda, begun: Begun, first: Option<Status>, moment: Moment) -> Expecting
+    pub(crate) fn new(
+        agenda: Agenda,
+        begun: Begun,
+        first: Option<Status>,
+        moment: Moment,
+    ) -> Expecting
         ensures { result ≡ expects LAG agenda begun first moment }
     {
         Expecting {
@@ -75,7 +80,11 @@ impl Expecting {
         if moment.next.0.saturating_sub(self.end.0) <= u64::from(NO_RESPONSE) {
             return ControllerNext::going(ControllerState::Expecting(self));
         }
-        let part = if self.first.is_none() { Part::First } else { Part::Second };
+        let part = if self.first.is_none() {
+            Part::First
+        } else {
+            Part::Second
+        };
         let ended = Ended::without_words(Outcome::NoResponse(part), self.first, None);
         close(self.agenda, self.begun, ended, moment)
     }
@@ -96,7 +105,11 @@ impl Expecting {
     fn is_abandoned(&self, moment: Moment) -> bool
         ensures { result ≡ is_abandoned self.now moment }
     {
-        match (self.first, self.begun.entry.item.abandon, moment.sample(self.begun.state.channel)) {
+        match (
+            self.first,
+            self.begun.entry.item.abandon,
+            moment.sample(self.begun.state.channel),
+        ) {
             (None, Some(ticks), Sample::Plus | Sample::Minus) => {
                 moment.next.0.saturating_sub(self.end.0) == u64::from(ticks)
             }
@@ -132,7 +145,13 @@ fn with_slot(mut slots: Slots, word: Option<Word>) -> Slots
     slots
 }
 
-fn read_first(agenda: Agenda, begun: Begun, slots: Slots, rest: u8, moment: Moment) -> ControllerNext
+fn read_first(
+    agenda: Agenda,
+    begun: Begun,
+    slots: Slots,
+    rest: u8,
+    moment: Moment,
+) -> ControllerNext
     ensures { result ≡ first_read LAG agenda begun slots.items rest moment }
 {
     match read_answer(&begun.entry.item.kind, Part::First, slots.as_slice(), rest) {
@@ -142,7 +161,13 @@ fn read_first(agenda: Agenda, begun: Begun, slots: Slots, rest: u8, moment: Mome
 }
 
 // A good first answer ends the message, unless a second one is expected.
-fn take_first(agenda: Agenda, begun: Begun, status: Status, slots: Slots, moment: Moment) -> ControllerNext
+fn take_first(
+    agenda: Agenda,
+    begun: Begun,
+    status: Status,
+    slots: Slots,
+    moment: Moment,
+) -> ControllerNext
     ensures { result ≡ good_first LAG agenda begun status slots.items moment (answers_of begun.entry.item.kind).second }
 {
     match answers(&begun.entry.item.kind).second {
@@ -166,7 +191,13 @@ fn take_first(agenda: Agenda, begun: Begun, status: Status, slots: Slots, moment
 }
 
 // A first answer that wasn't good.
-fn end_first(agenda: Agenda, begun: Begun, outcome: Outcome, status: Option<Status>, moment: Moment) -> ControllerNext
+fn end_first(
+    agenda: Agenda,
+    begun: Begun,
+    outcome: Outcome,
+    status: Option<Status>,
+    moment: Moment,
+) -> ControllerNext
     ensures { result ≡ ends_first LAG agenda begun outcome status moment }
 {
     if is_doubtful(is_offer(&begun.entry.item.kind), outcome) {
@@ -183,7 +214,14 @@ fn is_doubtful(offer: bool, outcome: Outcome) -> bool
     matches!((offer, outcome), (true, Outcome::BadReply(_)))
 }
 
-fn read_second(agenda: Agenda, begun: Begun, first: Status, slots: Slots, rest: u8, moment: Moment) -> ControllerNext
+fn read_second(
+    agenda: Agenda,
+    begun: Begun,
+    first: Status,
+    slots: Slots,
+    rest: u8,
+    moment: Moment,
+) -> ControllerNext
     ensures { result ≡ second_read agenda begun first slots.items rest moment }
 {
     let ended = match read_answer(&begun.entry.item.kind, Part::Second, slots.as_slice(), rest) {

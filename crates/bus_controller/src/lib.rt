@@ -3,30 +3,27 @@
 #![tactic(auto)]
 
 pub mod agenda;
-pub mod attempt;
+mod attempt;
 mod close;
 pub mod controller;
 pub mod doubting;
 pub mod expecting;
 pub mod holding;
 pub mod moment;
-pub mod opening;
-pub mod place;
-pub mod queue;
+mod opening;
+mod place;
+mod queue;
 pub mod sending;
 pub mod settling;
 pub mod states;
 pub mod yielded;
 
-pub use agenda::{Agenda, Origin};
-pub use attempt::{Begun, Ended};
+pub use agenda::Agenda;
 pub use controller::Controller;
-pub use doubting::{DOUBTING, Doubting};
+pub use doubting::Doubting;
 pub use expecting::Expecting;
 pub use holding::Holding;
 pub use moment::{Moment, Receiver};
-pub use opening::{Opening, SETTLING_QUIET};
-pub use queue::{Due, Entry, Queue};
 pub use sending::Sending;
 pub use settling::Settling;
 pub use states::{ControllerEvent, ControllerNext, ControllerState};

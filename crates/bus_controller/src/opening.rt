@@ -27,7 +27,9 @@ impl Opening {
     {
         match outcome {
             Outcome::Abandoned => Opening::Superseding(channel.other()),
-            Outcome::Clear | Outcome::Sent | Outcome::Declined => Opening::Usual { need: LEAST_QUIET },
+            Outcome::Clear | Outcome::Sent | Outcome::Declined => Opening::Usual {
+                need: LEAST_QUIET,
+            },
             _ => Opening::Usual {
                 need: SETTLING_QUIET,
             },

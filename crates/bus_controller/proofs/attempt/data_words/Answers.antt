@@ -1,4 +1,4 @@
-use Rattle.std.proofs.Common.{◌≡◌, ◌<◌, ◌∙◌, arith, None, take, filter_map, length}
+use Rattle.std.proofs.Common.{◌∙◌, arith, None, take, filter_map}
 use Rattle.bus_formats.specs.Readings.{datum_in}
 use Rattle.bus_controller.proofs.Words.{keeps-at, take-few}
 use Rattle.bus_controller.proofs.attempt.data_words.Goals as goal

@@ -1,4 +1,4 @@
-use Rattle.std.proofs.Common.{◌≡◌, ◌<◌, ◌≤◌, length, sym, ap, ◌∙◌, arith}
+use Rattle.std.proofs.Common.{length, sym, ap, ◌∙◌, arith}
 use Rattle.bus_controller.proofs.Words.{take-room, take-full}
 use Rattle.bus_controller.proofs.expecting.with_slot.Goals as goal
 

@@ -1,5 +1,4 @@
-use Rattle.std.proofs.Common.{◌≡◌, ◌<◌, length, arith, ap, sym, ◌∙◌}
-use Rattle.bus_controller.specs.Queue.{entries_of}
+use Rattle.std.proofs.Common.{length, arith, ap, ◌∙◌}
 use Rattle.bus_controller.proofs.Places.{all-from}
 use Rattle.bus_controller.proofs.place.first_place.Goals as goal
 

@@ -1,4 +1,4 @@
-use Rattle.std.proofs.Common.{◌≡◌, ℕ, ◌==◌, ap, ◌∙◌}
+use Rattle.std.proofs.Common.{ℕ, ◌==◌, ap, ◌∙◌}
 use Rattle.bus_line.specs.declared.cutter.TheConstants.{LAG}
 use Rattle.bus_model.specs.Course.{course}
 use Rattle.bus_controller.specs.ControllerStands.{ControllerStands}

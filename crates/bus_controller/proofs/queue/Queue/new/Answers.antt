@@ -1,5 +1,4 @@
-use Rattle.std.proofs.Common.{◌≡◌, ◌*◌, ◌≤◌, refl, sym, ap, ◌∙◌, arith}
-use Rattle.bus_controller.specs.Queue.{items_of, IsPlace, entries_of, HasItem}
+use Rattle.std.proofs.Common.{◌*◌, refl, sym}
 use Rattle.bus_controller.proofs.Places.{length-all, queue-is}
 use Rattle.bus_controller.proofs.queue.Queue.new.Goals as goal
 
@@ -10,7 +9,7 @@ first_place-place-requires-clause-left c =
 pub invariant_of-result : goal.invariant_of-result
 invariant_of-result c =
     queue-is c.args.frames.items c.args.repeat (c.args.repeat * c.count_items.result) c.first_place-place.result c.requires
-      (rw (c.count_items.ensures, c.deref.ensures.value) refl)
-      (rw c.deref-2.ensures.value at c.first_place-place.ensures.all)
-      (rw c.deref-2.ensures.value at c.first_place-place.ensures.place)
-      (rw c.deref-2.ensures.value at c.first_place-place.ensures.item)
+    (rw (c.count_items.ensures, c.deref.ensures.value) refl)
+    (rw c.deref-2.ensures.value at c.first_place-place.ensures.all)
+    (rw c.deref-2.ensures.value at c.first_place-place.ensures.place)
+    (rw c.deref-2.ensures.value at c.first_place-place.ensures.item)
