@@ -28,3 +28,6 @@ pub use sending::Sending;
 pub use settling::Settling;
 pub use states::{ControllerEvent, ControllerNext, ControllerState};
 pub use yielded::Yielded;
+
+#[cfg(test)]
+mod tests;
