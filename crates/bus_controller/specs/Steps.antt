@@ -57,15 +57,16 @@ sends (agenda, begun) = record {
   quiet = 0;
 }
 
+-- the next attempt, where an item is left
+abbrev pub starts_with : Holding → ℕ → Option Begun
+starts_with h now = option_map (begun_by h.opening h.agenda now) (slice_get h.agenda.left 0)
+
 abbrev pub begins_with : Holding → Option Begun → ControllerState
 begins_with h None = states.Holding h
 begins_with h (Some begun) = states.Sending (sends (h.agenda, begun))
 
 abbrev pub begins : Holding → ℕ → ControllerState
-begins h now =
-    if may_start h now
-    then begins_with h (option_map (begun_by h.opening h.agenda now) (slice_get h.agenda.left 0))
-    else states.Holding h
+begins h now = if may_start h now then begins_with h (starts_with h now) else states.Holding h
 
 abbrev pub waits : AgendaData → Opening → ℕ → ℕ → ControllerState
 waits agenda opening now quiet =

@@ -1,7 +1,7 @@
 //! Control is held, and no message is open.
-ghost use Rattle.std.specs.Prelude.{◌≡◌, true, slice_get, option_map, Some};
-ghost use Rattle.bus_controller.specs.Agendas.{begun_by};
-ghost use Rattle.bus_controller.specs.Steps.{may_start, waits, begins, from_holding, sends};
+ghost use Rattle.std.specs.Prelude.{◌≡◌, true};
+ghost use Rattle.bus_controller.specs.Steps.{may_start, starts_with, begins_with, waits, begins, from_holding};
+ghost use Rattle.bus_controller.specs.declared.states.ControllerState.TheVariants as states;
 
 use crate::agenda::Agenda;
 use crate::moment::Moment;
@@ -31,7 +31,7 @@ impl Holding {
     /// Starts the next message in this tick. No other state has a call that starts one.
     pub fn start(self, now: Tick) -> Sending
         requires { may_start self now.0 ≡ true }
-        ensures { option_map sends (option_map (λ begun. (self.agenda, begun)) (option_map (begun_by self.opening self.agenda now.0) (slice_get self.agenda.left 0))) ≡ Some result }
+        ensures { begins_with self (starts_with self now.0) ≡ states.Sending result }
     {
         match self.agenda.begin(self.opening, now) {
             Some(begun) => Sending::new(self.agenda, begun),
