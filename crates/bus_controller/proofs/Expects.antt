@@ -10,7 +10,8 @@ use Rattle.bus_line.specs.Cutting.{cut_now, cut_of, running_slots, Collects}
 use Rattle.bus_line.proofs.PastLaws.{quiet-le, stopped-more, stopped-quiet, runs-parts, runs-from, runs-pulse, rests-more, first_tick-runs, first_tick-begins, first_tick-lt}
 use Rattle.bus_line.proofs.EndLaws.{end_since-runs, end_since-ended}
 use Rattle.bus_line.proofs.SlotLaws.{burst-first, burst-ticks, burst_from-more}
-use Rattle.bus_line.proofs.CutNow.{now-pending, now-ended, now-begins, now-pulse, ended-more, running-off, running-on, cut-collects}
+use Rattle.bus_line.proofs.CutNow.{now-pending, now-ended, now-begins, now-pulse, ended-more}
+use Rattle.bus_line.proofs.CollectLaws.{running-off, running-on, cut-collects}
 use Rattle.bus_formats.specs.Times.{no_response}
 use Rattle.bus_model.specs.Attempts.{Begun}
 use Rattle.bus_model.specs.Controller.{reply, whole, silence}
