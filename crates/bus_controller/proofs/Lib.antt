@@ -1,0 +1,14 @@
+pub mod Places
+pub mod Moments
+pub mod Words
+pub mod Openings
+pub mod Waiting
+pub mod Closing
+pub mod Replies
+pub mod Sends
+pub mod Doubts
+pub mod ReadLaws
+pub mod Expects
+pub mod AnswerLaws
+pub mod StateLaws
+pub mod Wholes

@@ -1,0 +1,27 @@
+-- What one channel showed, and for which pasts a receiver stands.
+use Rattle.std.proofs.Common.{◌≡◌, ℕ, suc, ◌<◌, ◌≤◌, ◌^◌, inl, inr, List, [], ◌∷◌, length, refl, ap, arith}
+use Rattle.std.proofs.lemmas.Bool.{cases_Bool}
+use Rattle.bus_base.specs.declared.samples.Channel.{Channel}
+use Rattle.bus_base.specs.declared.samples.Sample.{Sample}
+use Rattle.bus_base.specs.declared.samples.Pair.{Pair}
+use Rattle.bus_line.specs.Channels.{on_channel, quiet_both, both_quiet}
+use Rattle.bus_line.specs.Cutting.{CutterStands}
+use Rattle.bus_line.specs.declared.cutter.Cutter.{Cutter}
+
+-- each tick shows one sample on each channel
+pub length-on : (c : Channel) (past : List Pair) → length (on_channel c past) ≡ length past
+length-on c [] = refl
+length-on c (shown ∷ past) = ap suc (length-on c past)
+
+-- a cutter that stands for a channel of some short past may hear
+pub may-hear : (k : ℕ) (cutter : Cutter) (c : Channel) (past : List Pair) → CutterStands k cutter (on_channel c past) → length past < 2 ^ 60 →
+    (samples : List Sample) × CutterStands k cutter samples × (length samples < 2 ^ 60)
+may-hear k cutter c past stands few = let same : length (on_channel c past) ≡ length past = length-on c past in (on_channel c past, stands, omega (arith, few, same))
+
+-- both channels were quiet in no more ticks than there are
+pub quiet_both-le : (past : List Pair) → quiet_both past ≤ length past
+quiet_both-le [] = omega arith
+quiet_both-le (shown ∷ past) = elim (cases_Bool (both_quiet shown)) [
+  | inl q ↦ (let rest : quiet_both past ≤ length past = quiet_both-le past in rw q (omega (arith, rest)))
+  | inr p ↦ rw p (omega arith)
+]

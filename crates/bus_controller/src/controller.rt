@@ -1,0 +1,135 @@
+//! The controller that a station has.
+ghost use Rattle.std.specs.Prelude.{◌≡◌, ◌≢◌, ℕ, ◌<◌, ◌≤◌, ◌^◌, Bool, true, false, not, ◌&&◌, is_none, List, [], ◌∷◌, ◌++◌, length, Some};
+ghost use Rattle.bus_base.specs.declared.samples.Pair.{Pair};
+ghost use Rattle.bus_line.specs.declared.cutter.TheConstants.{LAG};
+ghost use Rattle.bus_formats.specs.Plans.{StationData};
+ghost use Rattle.bus_model.specs.Starts.{has_items};
+ghost use Rattle.bus_model.specs.Course.{Take, course, drive_course};
+ghost use Rattle.bus_controller.specs.Stands.{told};
+ghost use Rattle.bus_controller.specs.Steps.{next_of_state, taken_by};
+ghost use Rattle.bus_controller.specs.AgendaOf.{IsAgendaOf};
+ghost use Rattle.bus_controller.specs.ControllerStands.{ControllerStands};
+
+use crate::agenda::Agenda;
+use crate::holding::wait;
+use crate::moment::{Moment, Receiver};
+use crate::opening::Opening;
+use crate::states::{ControllerEvent, ControllerState};
+use crate::yielded::Yielded;
+use bus_base::{Drive, Pair, Tick};
+use bus_formats::LEAST_QUIET;
+
+/// A bus controller. It stands for every history of both channels that it heard and every list of takes.
+#[derive(Drop)]
+pub struct Controller {
+    receiver: Receiver,
+    state: ControllerState,
+}
+
+impl Controller {
+    /// A controller that holds control from the start.
+    pub fn starting(agenda: Agenda) -> Controller
+        ensures { (station : StationData) → IsAgendaOf station agenda → ControllerStands LAG station true [] result [] }
+    {
+        Controller {
+            receiver: Receiver::new(),
+            state: wait(agenda, Opening::Usual { need: LEAST_QUIET }, Tick(0), 0),
+        }
+    }
+
+    /// A controller without control.
+    pub fn yielded(agenda: Agenda) -> Controller
+        ensures { (station : StationData) → IsAgendaOf station agenda → ControllerStands LAG station false [] result [] }
+    {
+        Controller {
+            receiver: Receiver::new(),
+            state: ControllerState::Yielded(Yielded { agenda }),
+        }
+    }
+
+    /// Hears what both channels showed in a tick, which follows those heard before, and tells of the attempt that ended in it: its frame,
+    /// item, turn, channel, start and message, how it ended, what was kept, and whether its item is finished. It takes no memory.
+    pub fn hear(&mut self, now: Tick, heard: Pair) -> ControllerEvent
+        requires { (station : StationData) × (starts : Bool) × (takes : List Take) × (past : List Pair) ×
+            ControllerStands LAG station starts takes self.old past × (now.0 ≡ length past) × (length past < 2 ^ 60) }
+        ensures event { (station : StationData) (starts : Bool) (takes : List Take) (past : List Pair) → ControllerStands LAG station starts takes self.old past →
+            (course LAG station starts takes (heard ∷ past)).ended ≡ told result ++ (course LAG station starts takes past).ended }
+        ensures stands { (station : StationData) (starts : Bool) (takes : List Take) (past : List Pair) → ControllerStands LAG station starts takes self.old past →
+            ControllerStands LAG station starts takes self.new (heard ∷ past) }
+    {
+        let moment = self.receiver.hear(now, heard);
+        self.step(moment)
+    }
+
+    fn step(&mut self, moment: Moment) -> ControllerEvent
+        ensures receiver { self.new.receiver ≡ self.old.receiver }
+        ensures state { self.new.state ≡ (next_of_state LAG self.old.state moment).state }
+        ensures event { result ≡ (next_of_state LAG self.old.state moment).event }
+    {
+        core::mem::replace_with(
+            &mut self.state,
+            moment,
+            |state: ControllerState, moment: Moment| {
+                let next = state.hear(moment);
+                (next.state, next.event)
+            },
+        )
+    }
+
+    /// What it sends in the tick to come.
+    pub fn drive(&self) -> Drive
+        ensures { (station : StationData) (starts : Bool) (takes : List Take) (past : List Pair) → ControllerStands LAG station starts takes self.now past →
+            result ≡ drive_course LAG past (course LAG station starts takes past) }
+    {
+        self.state.drive()
+    }
+
+    /// Takes control, where it has none and has items left. The first command starts in this tick, which is after the last that was heard.
+    pub fn take(&mut self, first: Tick)
+        requires { (station : StationData) × (starts : Bool) × (takes : List Take) × (past : List Pair) ×
+            ControllerStands LAG station starts takes self.old past × ((course LAG station starts takes past).holds ≡ false)
+            × ((course LAG station starts takes past).left ≢ []) × (length past ≤ first.0) }
+        ensures { (station : StationData) (starts : Bool) (takes : List Take) (past : List Pair) → ControllerStands LAG station starts takes self.old past →
+            (course LAG station starts takes past).holds ≡ false → length past ≤ first.0 →
+            ControllerStands LAG station starts (takes ++ record { heard = length past; first = first.0 } ∷ []) self.new past }
+    {
+        let next = self.receiver.next();
+        let quiet = self.receiver.quiet();
+        self.take_at(first, next, quiet);
+    }
+
+    fn take_at(&mut self, first: Tick, next: Tick, quiet: u64)
+        ensures receiver { self.new.receiver ≡ self.old.receiver }
+        ensures state { self.new.state ≡ taken_by self.old.state first next.0 quiet }
+    {
+        core::mem::replace_with(
+            &mut self.state,
+            first,
+            |state: ControllerState, first: Tick| { (state.take(first, next, quiet), ()) },
+        )
+    }
+
+    /// Whether it has no control.
+    pub fn is_yielded(&self) -> bool
+        ensures { (station : StationData) (starts : Bool) (takes : List Take) (past : List Pair) → ControllerStands LAG station starts takes self.now past →
+            result ≡ not (course LAG station starts takes past).holds }
+    {
+        self.state.serves()
+    }
+
+    /// Whether no message is open and no item is left.
+    pub fn is_idle(&self) -> bool
+        ensures { (station : StationData) (starts : Bool) (takes : List Take) (past : List Pair) → ControllerStands LAG station starts takes self.now past →
+            result ≡ (is_none (course LAG station starts takes past).runs && not (has_items (course LAG station starts takes past).left)) }
+    {
+        self.items_left() == 0
+    }
+
+    /// How many items are left: those of which no attempt was the last.
+    pub fn items_left(&self) -> u32
+        ensures { (station : StationData) (starts : Bool) (takes : List Take) (past : List Pair) → ControllerStands LAG station starts takes self.now past →
+            result ≡ length (course LAG station starts takes past).left }
+    {
+        self.state.items_left()
+    }
+}

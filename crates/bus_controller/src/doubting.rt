@@ -1,0 +1,48 @@
+//! An offer of control was answered badly.
+ghost use Rattle.std.specs.Prelude.{◌≡◌};
+ghost use Rattle.bus_controller.specs.Steps.{from_doubting, doubts};
+
+use crate::agenda::Agenda;
+use crate::attempt::{Begun, Ended};
+use crate::close::close;
+use crate::moment::Moment;
+use crate::states::{ControllerNext, ControllerState};
+use bus_base::{Part, Tick};
+use bus_formats::Outcome;
+
+/// Both channels are quiet so many ticks from the end of a bad answer to an offer on, where no station took control.
+pub const DOUBTING: u64 = 80;
+
+/// A bad answer to an offer ended, and both channels were quiet since.
+#[derive(Drop)]
+pub struct Doubting {
+    pub(crate) agenda: Agenda,
+    pub(crate) begun: Begun,
+    // where the answer ended
+    pub(crate) end: Tick,
+}
+
+impl Doubting {
+    /// Hears a tick.
+    pub fn hear(self, moment: Moment) -> ControllerNext
+        ensures { result ≡ from_doubting self moment }
+    {
+        doubt(self.agenda, self.begun, self.end, moment)
+    }
+}
+
+/// Control is kept where both channels are quiet for 80 ticks from the end of the answer on, and yielded at the first sample in these.
+pub(crate) fn doubt(agenda: Agenda, begun: Begun, end: Tick, moment: Moment) -> ControllerNext
+    ensures { result ≡ doubts agenda begun end moment }
+{
+    let since = moment.next.0.saturating_sub(end.0);
+    if moment.quiet < since {
+        let ended = Ended::without_words(Outcome::Yielded, None, None);
+        return close(agenda, begun, ended, moment);
+    }
+    if since == DOUBTING {
+        let ended = Ended::without_words(Outcome::BadReply(Part::First), None, None);
+        return close(agenda, begun, ended, moment);
+    }
+    ControllerNext::going(ControllerState::Doubting(Doubting { agenda, begun, end }))
+}

@@ -1,0 +1,27 @@
+//! Control is held, and the channels settle after a message that didn't go well.
+ghost use Rattle.std.specs.Prelude.{◌≡◌};
+ghost use Rattle.bus_controller.specs.Steps.{from_settling};
+
+use crate::agenda::Agenda;
+use crate::holding::wait;
+use crate::moment::Moment;
+use crate::opening::{Opening, SETTLING_QUIET};
+use crate::states::ControllerNext;
+
+/// No message is open, and both channels were quiet for fewer than 40 ticks.
+#[derive(Drop)]
+pub struct Settling {
+    pub(crate) agenda: Agenda,
+}
+
+impl Settling {
+    /// Hears a tick.
+    pub fn hear(self, moment: Moment) -> ControllerNext
+        ensures { result ≡ from_settling self moment }
+    {
+        let opening = Opening::Usual {
+            need: SETTLING_QUIET,
+        };
+        ControllerNext::going(wait(self.agenda, opening, moment.next, moment.quiet))
+    }
+}

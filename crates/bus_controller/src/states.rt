@@ -1,0 +1,120 @@
+//! The states of a controller. Hearing a tick consumes a state and gives the next one.
+ghost use Rattle.std.specs.Prelude.{◌≡◌, length};
+ghost use Rattle.bus_line.specs.declared.cutter.TheConstants.{LAG};
+ghost use Rattle.bus_controller.specs.Steps.{going, next_of_state, driven_by, serves, left_of, taken_by};
+
+use crate::doubting::Doubting;
+use crate::expecting::Expecting;
+use crate::holding::{Holding, wait};
+use crate::moment::Moment;
+use crate::sending::Sending;
+use crate::settling::Settling;
+use crate::yielded::Yielded;
+use bus_base::{Drive, Tick};
+use bus_formats::Attempt;
+
+/// A controller in one of its states.
+#[derive(Drop)]
+pub enum ControllerState {
+    /// No message is open, and the next may start.
+    Holding(Holding),
+    /// Its command is sent.
+    Sending(Sending),
+    /// An answer is awaited or heard.
+    Expecting(Expecting),
+    /// No message is open, and the channels settle.
+    Settling(Settling),
+    /// An offer of control was answered badly.
+    Doubting(Doubting),
+    /// Another station holds control.
+    Yielded(Yielded),
+}
+
+/// What a controller tells of a tick.
+#[derive(Drop)]
+pub enum ControllerEvent {
+    /// No message ended.
+    Nothing,
+    /// A message ended. The number of the station is 0 in its record.
+    Ended(Attempt),
+}
+
+/// The state after a tick, and what is told of it.
+#[derive(Drop)]
+pub struct ControllerNext {
+    pub state: ControllerState,
+    pub event: ControllerEvent,
+}
+
+impl ControllerNext {
+    /// No message ended.
+    pub(crate) fn going(state: ControllerState) -> ControllerNext
+        ensures { result ≡ going state }
+    {
+        ControllerNext {
+            state,
+            event: ControllerEvent::Nothing,
+        }
+    }
+}
+
+impl ControllerState {
+    /// Hears a tick.
+    pub fn hear(self, moment: Moment) -> ControllerNext
+        ensures { result ≡ next_of_state LAG self moment }
+    {
+        match self {
+            ControllerState::Holding(state) => state.hear(moment),
+            ControllerState::Sending(state) => state.hear(moment),
+            ControllerState::Expecting(state) => state.hear(moment),
+            ControllerState::Settling(state) => state.hear(moment),
+            ControllerState::Doubting(state) => state.hear(moment),
+            ControllerState::Yielded(state) => state.hear(moment),
+        }
+    }
+
+    /// What is sent in the tick to come.
+    pub fn drive(&self) -> Drive
+        ensures { result ≡ driven_by self.now }
+    {
+        match self {
+            ControllerState::Sending(state) => state.drive(),
+            _ => Drive::Silent,
+        }
+    }
+
+    /// Whether another station holds control.
+    pub fn serves(&self) -> bool
+        ensures { result ≡ serves self.now }
+    {
+        matches!(self, ControllerState::Yielded(_))
+    }
+
+    /// How many items are left.
+    pub fn items_left(&self) -> u32
+        ensures { result ≡ length (left_of self.now) }
+    {
+        match self {
+            ControllerState::Holding(state) => state.agenda.items_left(),
+            ControllerState::Sending(state) => state.agenda.items_left(),
+            ControllerState::Expecting(state) => state.agenda.items_left(),
+            ControllerState::Settling(state) => state.agenda.items_left(),
+            ControllerState::Doubting(state) => state.agenda.items_left(),
+            ControllerState::Yielded(state) => state.agenda.items_left(),
+        }
+    }
+
+    /// Takes control, where another station holds it. The first command starts in this tick. `next` is the tick to come, before which both
+    /// channels were quiet for so many ticks.
+    pub(crate) fn take(self, first: Tick, next: Tick, quiet: u64) -> ControllerState
+        ensures { result ≡ taken_by self first next.0 quiet }
+    {
+        match self {
+            ControllerState::Yielded(state) => {
+                let holding = state.take(first);
+                wait(holding.agenda, holding.opening, next, quiet)
+            }
+            other => other,
+        }
+    }
+}
