@@ -1,5 +1,5 @@
 -- Where a plan breaks the rules on its faults.
-use Rattle.std.specs.Prelude.{ℕ, ◌+◌, ◌==◌, Bool, true, false, ◌&&◌, if◌then◌else◌, List, [], ◌∷◌, take, codes, Option, Some, None}
+use Rattle.std.specs.Prelude.{ℕ, ◌+◌, ◌*◌, ◌==◌, Bool, true, false, ◌&&◌, if◌then◌else◌, List, [], ◌∷◌, take, codes, Option, Some, None}
 use Rattle.std.specs.List.{list_any}
 use Rattle.toml.specs.Data.{Data, table, Items, no_items, item, Members}
 use Rattle.bus_base.specs.declared.samples.Part.{Part}
@@ -63,3 +63,16 @@ abbrev pub same_fault : List Fault → ℕ → List Fault → Option (List ℕ)
 same_fault all n [] = None
 same_fault all n (f ∷ fs) =
     if has_same f (take n all) then Some (at_number (codes "fault.") (n + 1)) else same_fault all (n + 1) fs
+
+-- what a fault strikes as one number: the same exactly for faults that strike the same, their words being below 256
+abbrev pub part_code : Part → ℕ
+part_code Command = 0
+part_code First = 1
+part_code Second = 2
+
+abbrev pub word_code : Option ℕ → ℕ
+word_code None = 0
+word_code (Some word) = word + 1
+
+abbrev pub strike_code : Fault → ℕ
+strike_code f = (f.attempt * 4 + part_code f.part) * 512 + word_code (word_of f.hit)

@@ -1,5 +1,5 @@
 //! Where a plan breaks the rules on its faults.
-ghost use Rattle.std.specs.Prelude.{◌≡◌};
+ghost use Rattle.std.specs.Prelude.{◌≡◌, ◌≤◌, IfOk};
 ghost use Rattle.toml.specs.View.{view, table_view, array_view};
 ghost use Rattle.bus_plan.specs.FaultRules as spec;
 
@@ -9,6 +9,8 @@ use crate::place::Place;
 use crate::positions::names_undetectable;
 use bus_base::Part;
 use bus_formats::{Fault, Hit};
+use std::alloc::{AllocError, Global};
+use std::collections::BTreeSet;
 use toml::{Table, Value};
 
 fn table_flips_undetectably(table: &Table) -> bool
@@ -60,55 +62,45 @@ fn word_of(hit: &Hit) -> Option<u8>
     }
 }
 
-fn is_same_part(a: Part, b: Part) -> bool
-    ensures { result ≡ spec.is_same_part a b }
+// The number of a part, one for each.
+fn part_code(part: Part) -> u64
+    ensures { result ≡ spec.part_code part }
 {
-    match a {
-        Part::Command => matches!(b, Part::Command),
-        Part::First => matches!(b, Part::First),
-        Part::Second => matches!(b, Part::Second),
+    match part {
+        Part::Command => 0,
+        Part::First => 1,
+        Part::Second => 2,
     }
 }
 
-fn is_same_word(a: Option<u8>, b: Option<u8>) -> bool
-    ensures { result ≡ spec.is_same_word a b }
+// The number of a word, or 0 where none is struck: at most 256, and one for each.
+fn word_code(word: Option<u8>) -> u64
+    ensures value { result ≡ spec.word_code word }
+    ensures bound { result ≤ 256 }
 {
-    match a {
-        Some(a) => match b {
-            Some(b) => a == b,
-            None => false,
-        },
-        None => b.is_none(),
+    match word {
+        Some(word) => word as u64 + 1,
+        None => 0,
     }
 }
 
-fn is_same(a: &Fault, b: &Fault) -> bool
-    ensures { result ≡ spec.is_same a.now b.now }
+// What a fault strikes as one number, the same exactly for faults that strike the same.
+fn strike_code(fault: &Fault) -> u64
+    ensures value { result ≡ spec.strike_code fault.now }
+    ensures bound { spec.word_code (spec.word_of fault.now.hit) ≤ 256 }
 {
-    a.attempt == b.attempt
-        && is_same_part(a.part, b.part)
-        && is_same_word(word_of(&a.hit), word_of(&b.hit))
+    (fault.attempt as u64 * 4 + part_code(fault.part)) * 512 + word_code(word_of(&fault.hit))
 }
 
-fn has_same(faults: &[Fault], fault: &Fault) -> bool
-    ensures { result ≡ spec.has_same fault.now faults.now }
+/// The first fault that strikes the same as an earlier one. The time grows with the number of faults times its logarithm.
+pub fn same_fault(alloc: Global, faults: &[Fault]) -> Result<Option<Place>, AllocError>
+    ensures { IfOk result (λ place. place ≡ spec.same_fault faults.now 0 faults.now) }
 {
-    for earlier in faults {
-        if is_same(earlier, fault) {
-            return true;
-        }
-    }
-    false
-}
-
-/// The first fault that strikes the same as an earlier one.
-pub fn same_fault(faults: &[Fault]) -> Option<Place>
-    ensures { result ≡ spec.same_fault faults.now 0 faults.now }
-{
+    let mut struck = BTreeSet::new(alloc);
     for (i, fault) in faults.iter().enumerate() {
-        if has_same(&faults[..i], fault) {
-            return Some(Place::root().with("fault.").with_number(i as u64 + 1));
+        if !struck.insert(strike_code(fault))? {
+            return Ok(Some(Place::root().with("fault.").with_number(i as u64 + 1)));
         }
     }
-    None
+    Ok(None)
 }

@@ -92,19 +92,24 @@ fn item_refusal(plan: &Plan) -> Option<PlanRefusal>
 }
 
 // The first rule on faults and on amounts that is broken, with its first place.
-fn fault_refusal(head: Head, table: &Table, plan: &Plan) -> Option<PlanRefusal>
-    ensures { result ≡ spec.fault_refusal head (table_view table.now) plan.now }
+fn fault_refusal(
+    alloc: Global,
+    head: Head,
+    table: &Table,
+    plan: &Plan,
+) -> Result<Option<PlanRefusal>, AllocError>
+    ensures { IfOk result (λ refusal. refusal ≡ spec.fault_refusal head (table_view table.now) plan.now) }
 {
     if let Some(place) = undetectable(table) {
-        return Some(PlanRefusal::Undetectable(place));
+        return Ok(Some(PlanRefusal::Undetectable(place)));
     }
-    if let Some(place) = same_fault(plan.faults.as_slice()) {
-        return Some(PlanRefusal::SameFault(place));
+    if let Some(place) = same_fault(alloc, plan.faults.as_slice())? {
+        return Ok(Some(PlanRefusal::SameFault(place)));
     }
     if let Some(place) = too_many(head, plan) {
-        return Some(PlanRefusal::TooMany(place));
+        return Ok(Some(PlanRefusal::TooMany(place)));
     }
-    None
+    Ok(None)
 }
 
 // The plan of a document, or the refusal.
@@ -123,9 +128,10 @@ fn plan_of(alloc: Global, table: &Table) -> Result<Plan, PlanError>
     if let Some(refusal) = item_refusal(&plan) {
         return Err(PlanError::Refused(refusal));
     }
-    match fault_refusal(head, table, &plan) {
-        Some(refusal) => Err(PlanError::Refused(refusal)),
-        None => Ok(plan),
+    match fault_refusal(alloc, head, table, &plan) {
+        Ok(Some(refusal)) => Err(PlanError::Refused(refusal)),
+        Ok(None) => Ok(plan),
+        Err(error) => Err(PlanError::Memory(error)),
     }
 }
 
@@ -145,8 +151,8 @@ fn plan_of_text(alloc: Global, text: &[u8]) -> Result<Plan, PlanError>
 /// The plan that a text describes (a TOML document in UTF-8), or the least numbered rule that it breaks with the first place that
 /// breaks it. Every plan that is read is accepted: its numbers lie in their ranges, and it keeps the rules on whole plans.
 ///
-/// The time grows with the text's length, but for the search for equal faults, which grows with the square of their number. Want of
-/// memory is an answer of its own, whatever the text is.
+/// The time grows with the text's length, but for the search for equal faults, which grows with their number times its logarithm.
+/// Want of memory is an answer of its own, whatever the text is.
 pub fn read_plan(alloc: Global, text: &[u8]) -> Result<Plan, PlanError>
     ensures ok { IfOk result (λ p. spec.plan_of_bytes text.now ≡ Ok p) }
     ensures accepted { IfOk result IsAccepted }

@@ -7,7 +7,7 @@ use std::test::Fail;
 // A text, the number of the rule that refuses it, and the place.
 struct Case(&'static str, u8, &'static str);
 
-static CASES: [Case; 30] = [
+static CASES: [Case; 31] = [
     Case("version =", 1, ""),
     Case("version = 1\nversion = 1\n", 1, ""),
     Case("version = 1\nstart = 9223372036854775808\n", 1, ""),
@@ -133,6 +133,11 @@ static CASES: [Case; 30] = [
         "version = 1\nstart = 5\nstation = [{address = 5}]\nfault = [{attempt = 1, part = \"first\", kind = \"cut\", after = 0}, {attempt = 1, part = \"first\", kind = \"extra\", words = 1}]\n",
         12,
         "fault.2",
+    ),
+    Case(
+        "version = 2\nstart = 5\nstation = [{address = 5}]\nfault = [{attempt = 1, part = \"first\", kind = \"flip\", word = 0, at = [3]}, {attempt = 1, part = \"second\", kind = \"flip\", word = 0, at = [3]}, {attempt = 1, part = \"first\", kind = \"cut\", after = 0}, {attempt = 2, part = \"first\", kind = \"flip\", word = 0, at = [3]}, {attempt = 1, part = \"first\", kind = \"fade\", word = 0, at = [3]}]\n",
+        12,
+        "fault.5",
     ),
 ];
 
