@@ -67,11 +67,10 @@ impl Buffers {
         self.transmit[usize::from(sub)] = block_of(words);
     }
 
-    /// Makes the receive block of a subaddress, 1 to 30, exactly the words, 1 to 32.
+    /// Makes the receive block of a subaddress, 1 to 30, exactly the words, at most 32.
     pub fn set(&mut self, sub: u8, words: &[u16])
         requires first { 1 ≤ sub }
         requires last { sub ≤ 30 }
-        requires some { 1 ≤ length words.now }
         requires fits { length words.now ≤ 32 }
         ensures received { self.new.received ≡ set self.old.received sub words.now }
         ensures transmit { self.new.transmit ≡ self.old.transmit }
