@@ -1,0 +1,4 @@
+pub mod Heard
+pub mod Short
+pub mod Found
+pub mod Performing

@@ -1,0 +1,5 @@
+//! A remote terminal
+#![tactic(auto)]
+
+mod common;
+mod handling;
