@@ -1,3 +1,4 @@
 pub mod Holding
 pub mod Handling
 pub mod Steps
+pub mod Stands
