@@ -4,3 +4,6 @@ pub mod Found
 pub mod Performing
 pub mod Within
 pub mod Loads
+pub mod Standing
+pub mod Ends
+pub mod Acting

@@ -27,6 +27,7 @@ pub record TerminalFits (k : ℕ) (terminal : TerminalData) : Type 0 where
   pub address : terminal.address ≤ 31
   pub prompt : suc k ≤ dead_ticks terminal.delay
   pub delay : terminal.delay < 256
+  pub lag : k ≤ 3
 
 -- the loads for the terminal were made: each in a tick that was heard
 abbrev pub AreMade : ℕ → ℕ → List TimedLoad → Type 0
