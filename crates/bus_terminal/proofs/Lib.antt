@@ -7,3 +7,4 @@ pub mod Loads
 pub mod Standing
 pub mod Ends
 pub mod Acting
+pub mod Nexts

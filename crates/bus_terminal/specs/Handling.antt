@@ -53,6 +53,12 @@ handled_told heard waiting out =
     option_or (order_told A heard.a heard.a_outrun waiting)
       (option_or (order_told B heard.b heard.b_outrun waiting) (if out then out_with waiting else None))
 
+-- the end of what is handled
+abbrev pub EndFits : Handled → Type 0
+EndFits (told.Obeys c command burst) = burst.end < 2 ^ 60
+EndFits (told.Settles w burst) = burst.end < 2 ^ 60
+EndFits (told.RunsOut w) = w.end < 2 ^ 60
+
 -- ---- what that means
 
 -- the promise that stands

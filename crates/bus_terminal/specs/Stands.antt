@@ -7,10 +7,10 @@ use Rattle.bus_formats.specs.Plans.{TerminalData}
 use Rattle.bus_formats.specs.Times.{dead_ticks}
 use Rattle.bus_model.specs.Waits.{relay_wait}
 use Rattle.bus_model.specs.Memory.{TimedLoad, with_loads}
-use Rattle.bus_model.specs.Orders.{Duty, free, owes, promises, due_after}
+use Rattle.bus_model.specs.Orders.{Duty, free, owes, promises, due_after, Taken}
 use Rattle.bus_model.specs.Hearing.{Moment, heard_on}
-use Rattle.bus_model.specs.Standing.{Standing, mark_on, superseded}
-use Rattle.bus_model.specs.Terminal.{given_up, is_over}
+use Rattle.bus_model.specs.Standing.{Standing, mark_on, superseded, Handled, obeys}
+use Rattle.bus_model.specs.Terminal.{given_up, is_over, after_tick, order_now, taken_by}
 use Rattle.bus_terminal.specs.Holding.{EarsStand}
 use Rattle.bus_terminal.specs.Handling.{IsWaiting}
 use Rattle.bus_terminal.specs.declared.common.Common.{Common}
@@ -21,6 +21,9 @@ use Rattle.bus_terminal.specs.declared.owing.Owing.{Owing}
 use Rattle.bus_terminal.specs.declared.answering.Answering.{Answering}
 use Rattle.bus_terminal.specs.declared.state.TerminalState.{TerminalState}
 use Rattle.bus_terminal.specs.declared.state.TerminalState.TheVariants as states
+use Rattle.bus_terminal.specs.declared.state.TerminalEvent.{TerminalEvent}
+use Rattle.bus_terminal.specs.declared.state.TerminalEvent.TheVariants as events
+use Rattle.bus_terminal.specs.declared.state.TerminalNext.{TerminalNext}
 
 -- the numbers of a plan that the terminal rests on; an answer begins after the end that it answers is known
 pub record TerminalFits (k : ℕ) (terminal : TerminalData) : Type 0 where
@@ -89,3 +92,23 @@ StateStands k terminal loads (states.Listening state) past s = ListeningStands k
 StateStands k terminal loads (states.Promised state) past s = PromisedStands k terminal loads state past s
 StateStands k terminal loads (states.Owing state) past s = OwingStands k terminal loads state past s
 StateStands k terminal loads (states.Answering state) past s = AnsweringStands k terminal loads state past s
+
+-- what an order in the newest tick told, where s stood before it: the block that was taken, with the tick and the channel
+abbrev pub TakenIs : TerminalEvent → ℕ → Channel → Option Taken → Type 0
+TakenIs events.Nothing tick c taken = taken ≡ None
+TakenIs (events.Took delivery) tick c taken =
+    (delivery.tick.0 ≡ tick) × (delivery.channel ≡ c)
+      × (taken ≡ Some record { sub = delivery.sub; broadcast = delivery.broadcast; words = delivery.words })
+TakenIs events.Accepted tick c taken = taken ≡ None
+
+-- the channel on which something is handled
+abbrev pub channel_of : Standing → Option Handled → Channel
+channel_of s None = s.channel
+channel_of s (Some (obeys c end order rest)) = c
+channel_of s (Some _) = s.channel
+
+-- the state after a tick, and what is told of it
+pub record NextStands (k : ℕ) (terminal : TerminalData) (loads : List TimedLoad) (next : TerminalNext) (past : List Moment) (now : Moment) (s : Standing) : Type 0 where
+  pub state : StateStands k terminal loads next.state (now ∷ past) (after_tick k terminal loads now past s)
+  pub taken : TakenIs next.event (length past) (channel_of s (order_now k terminal (now ∷ past) s))
+      (taken_by k terminal loads (length past) now.may s (order_now k terminal (now ∷ past) s))

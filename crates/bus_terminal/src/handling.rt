@@ -88,8 +88,10 @@ fn settles(channel: Channel, waiting: Waiting, burst: HeardBurst) -> Option<Hand
 
 /// Does what is handled.
 pub(crate) fn perform(terminal: &TerminalPlan, memory: &mut Memory, handled: Handled, may_accept: bool) -> Performed
-    requires { terminal.now.address ≤ 31 }
-    ensures {
+    requires address { terminal.now.address ≤ 31 }
+    requires end { spec.EndFits handled }
+    ensures fits { result.end < 2 ^ 60 }
+    ensures does {
         (s : Standing) (order : Order) → spec.HandledIs handled order s →
             spec.PerformedIs result memory.new s order (done_by LAG terminal.now s memory.old may_accept order)
     }

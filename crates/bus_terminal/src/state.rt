@@ -1,10 +1,20 @@
 //! The states of a terminal, and what a tick leaves.
-ghost use Rattle.std.specs.Prelude.{◌≡◌, ◌≤◌, ◌<◌, ◌+◌, ◌^◌, ℕ, Option, Some, None, length};
+ghost use Rattle.std.specs.Prelude.{◌≡◌, ◌≤◌, ◌<◌, ◌+◌, ◌^◌, ◌∷◌, ℕ, List, Option, Some, None, length};
+ghost use Rattle.bus_line.specs.declared.cutter.TheConstants.{LAG};
+ghost use Rattle.bus_formats.specs.Plans.{TerminalData};
+ghost use Rattle.bus_model.specs.Memory.{TimedLoad};
 ghost use Rattle.bus_model.specs.Orders.{due_after};
+ghost use Rattle.bus_model.specs.Hearing.{Moment};
+ghost use Rattle.bus_model.specs.Standing.{Standing, Handled as Order};
+ghost use Rattle.bus_model.specs.Terminal.{order_now, marked_by};
+ghost use Rattle.bus_terminal.specs.Handling as handling;
+ghost use Rattle.bus_terminal.specs.Holding.{EarsStand};
+ghost use Rattle.bus_terminal.specs.Stands as stands;
+ghost use Rattle.bus_terminal.specs.declared.common.Common.{Common as CommonData};
 ghost use Rattle.bus_terminal.specs.Steps as spec;
 
 use crate::common::Common;
-use crate::handling::{Performed, Waiting};
+use crate::handling::{Handled, Performed, Waiting, perform};
 use crate::{Answering, Listening, Owing, Promised};
 use bus_base::{Channel, Part, Tick};
 use bus_formats::{Delivery, TerminalPlan, dead_ticks};
@@ -120,5 +130,28 @@ pub(crate) fn told(now: u64, channel: Channel, taken: Option<Taken>) -> Terminal
             broadcast: block.broadcast,
             words: block.words,
         }),
+    }
+}
+
+/// Does what is handled in the tick `now`, which the ears have heard.
+pub(crate) fn act(common: Common, now: u64, handled: Handled, may_accept: bool) -> TerminalNext
+    requires address { common.plan.address ≤ 31 }
+    requires now { now < 2 ^ 60 }
+    requires end { handling.EndFits handled }
+    ensures {
+        (terminal : TerminalData) (loads : List TimedLoad) (before : CommonData) (past : List Moment) (moment : Moment) (s : Standing) (order : Order) →
+            stands.CommonStands LAG terminal loads before past s → order_now LAG terminal (moment ∷ past) s ≡ Some order →
+            handling.HandledIs handled order s → common.plan ≡ before.plan → common.memory ≡ before.memory →
+            ((after : Standing) → EarsStand LAG terminal.address common.ears (moment ∷ past) (marked_by LAG terminal moment past s after)) →
+            now ≡ length past → moment.may ≡ may_accept → stands.NextStands LAG terminal loads result past moment s
+    }
+{
+    let mut common = common;
+    let mut performed = perform(&common.plan, &mut common.memory, handled, may_accept);
+    let event = told(now, performed.channel, performed.done.taken.take());
+    let superseded = common.ears.supersede(performed.channel, performed.end);
+    TerminalNext {
+        state: stand(common, superseded, now + 1, performed),
+        event,
     }
 }
