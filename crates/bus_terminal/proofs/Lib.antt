@@ -8,3 +8,4 @@ pub mod Standing
 pub mod Ends
 pub mod Acting
 pub mod Nexts
+pub mod Ticks
