@@ -9,3 +9,4 @@ pub mod Ends
 pub mod Acting
 pub mod Nexts
 pub mod Ticks
+pub mod Listened

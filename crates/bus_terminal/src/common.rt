@@ -10,11 +10,13 @@ ghost use Rattle.bus_model.specs.Standing as spec;
 ghost use Rattle.bus_model.specs.Hearing.{Moment, heard_on};
 ghost use Rattle.bus_model.specs.Terminal.{marked_by};
 ghost use Rattle.bus_terminal.specs.Holding as holding;
+ghost use Rattle.bus_model.specs.Memory.{TimedLoad};
+ghost use Rattle.bus_terminal.specs.Stands.{CommonStands};
 ghost use Rattle.bus_terminal.specs.Holding.{Listens, EarsStand, AreListened};
 
 use bus_base::{Channel, Pair};
 use bus_ears::{Ear, Heard};
-use bus_formats::{TerminalPlan, dead_ticks};
+use bus_formats::TerminalPlan;
 use bus_line::LAG;
 use bus_orders::Memory;
 
@@ -125,4 +127,35 @@ fn is_newer(other: Channel, theirs: Option<u64>, own: Option<u64>) -> bool
         (Some(_), None) => true,
         (Some(tick), Some(last)) => last < tick || (last == tick && other == Channel::A),
     }
+}
+
+impl Common {
+    /// Hears both channels in tick `now`. The terminal's own transmission begins on a channel, or on none.
+    pub(crate) fn listen(&mut self, now: u64, heard: Pair, begins: Option<Channel>) -> Listened
+        requires {
+            (terminal : TerminalData) × (loads : List TimedLoad) × (past : List Moment) × (s : spec.Standing) × CommonStands LAG terminal loads self.old past s
+                × (length past ≡ now) × (now < 2 ^ 60)
+        }
+        ensures plan { self.new.plan ≡ self.old.plan }
+        ensures memory { self.new.memory ≡ self.old.memory }
+        ensures stands {
+            (terminal : TerminalData) (loads : List TimedLoad) (past : List Moment) (s after : spec.Standing) (moment : Moment) →
+                CommonStands LAG terminal loads self.old past s → length past ≡ now → moment.shown ≡ heard → Listens LAG terminal begins past s →
+                EarsStand LAG terminal.address self.new.ears (moment ∷ past) (marked_by LAG terminal moment past s after)
+        }
+        ensures tells {
+            (terminal : TerminalData) (loads : List TimedLoad) (past : List Moment) (s : spec.Standing) (moment : Moment) →
+                CommonStands LAG terminal loads self.old past s → length past ≡ now → moment.shown ≡ heard →
+                AreListened LAG terminal.address result (moment ∷ past) past s
+        }
+    {
+        let own = own_address(&self.plan);
+        self.ears.listen(own, now, heard, begins)
+    }
+}
+
+fn own_address(plan: &TerminalPlan) -> u8
+    ensures { result ≡ plan.now.address }
+{
+    plan.address
 }
