@@ -10,3 +10,4 @@ pub mod Acting
 pub mod Nexts
 pub mod Ticks
 pub mod Listened
+pub mod OwingTicks

@@ -1,5 +1,5 @@
 -- What an order leaves, as a function of what the code knows of it.
-use Rattle.std.specs.Prelude.{ℕ, nat_lt, Bool, true, false, if◌then◌else◌, Option, Some, None}
+use Rattle.std.specs.Prelude.{ℕ, nat_lt, Bool, true, false, ◌||◌, if◌then◌else◌, Option, Some, None}
 use Rattle.bus_base.specs.declared.samples.Channel.{Channel}
 use Rattle.bus_base.specs.declared.samples.Part.{Part}
 use Rattle.bus_model.specs.Orders.{due_after}
@@ -41,3 +41,7 @@ event_told now channel (Some taken) = events.Took record {
   broadcast = taken.broadcast;
   words = taken.words;
 }
+
+-- an answer that is owed, after a tick without an order
+abbrev pub owing_on : Common → ℕ → Sends → Bool → Bool → TerminalState
+owing_on common next sends heard newer = if heard || newer then listens common else owes_told common next sends

@@ -1,8 +1,8 @@
 //! What every state of a terminal has: its description, what it keeps, and an ear for each channel.
-ghost use Rattle.std.specs.Prelude.{◌≡◌, ◌≤◌, ◌<◌, ◌+◌, ◌-◌, ◌∷◌, ◌^◌, ℕ, List, Option, Some, None, length, suc, ◌&&◌};
+ghost use Rattle.std.specs.Prelude.{◌≡◌, ◌≤◌, ◌<◌, ◌+◌, ◌-◌, ◌∷◌, ◌^◌, ℕ, List, Option, Some, None, length, suc, ◌&&◌, not};
 ghost use Rattle.bus_base.specs.declared.samples.Channel.{Channel};
 ghost use Rattle.bus_base.specs.declared.samples.Pair.{Pair};
-ghost use Rattle.bus_base.specs.Samples.{same_channel, other_of};
+ghost use Rattle.bus_base.specs.Samples.{same_channel, other_of, is_quiet, sample_on};
 ghost use Rattle.bus_line.specs.declared.cutter.TheConstants.{LAG};
 ghost use Rattle.bus_formats.specs.Plans.{TerminalData};
 ghost use Rattle.bus_model.specs.Orders as orders;
@@ -14,7 +14,7 @@ ghost use Rattle.bus_model.specs.Memory.{TimedLoad};
 ghost use Rattle.bus_terminal.specs.Stands.{CommonStands};
 ghost use Rattle.bus_terminal.specs.Holding.{Listens, EarsStand, AreListened};
 
-use bus_base::{Channel, Pair};
+use bus_base::{Channel, Pair, Sample};
 use bus_ears::{Ear, Heard};
 use bus_formats::TerminalPlan;
 use bus_line::LAG;
@@ -158,4 +158,14 @@ fn own_address(plan: &TerminalPlan) -> u8
     ensures { result ≡ plan.now.address }
 {
     plan.address
+}
+
+/// Whether a channel isn't quiet.
+pub(crate) fn is_heard(heard: Pair, channel: Channel) -> bool
+    ensures { result ≡ not (is_quiet (sample_on heard channel)) }
+{
+    match heard.on(channel) {
+        Sample::Quiet => false,
+        Sample::Plus | Sample::Minus => true,
+    }
 }
