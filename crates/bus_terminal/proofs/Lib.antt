@@ -11,3 +11,4 @@ pub mod Nexts
 pub mod Ticks
 pub mod Listened
 pub mod OwingTicks
+pub mod PromisedTicks

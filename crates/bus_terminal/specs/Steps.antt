@@ -7,6 +7,7 @@ use Rattle.bus_orders.specs.declared.done.Duty.{Duty}
 use Rattle.bus_orders.specs.declared.done.Duty.TheVariants as duties
 use Rattle.bus_orders.specs.declared.done.Taken.{Taken}
 use Rattle.bus_terminal.specs.declared.common.Common.{Common}
+use Rattle.bus_terminal.specs.declared.handling.Waiting.{Waiting}
 use Rattle.bus_terminal.specs.declared.state.Sends.{Sends}
 use Rattle.bus_terminal.specs.declared.state.TerminalState.{TerminalState}
 use Rattle.bus_terminal.specs.declared.state.TerminalState.TheVariants as states
@@ -45,3 +46,8 @@ event_told now channel (Some taken) = events.Took record {
 -- an answer that is owed, after a tick without an order
 abbrev pub owing_on : Common → ℕ → Sends → Bool → Bool → TerminalState
 owing_on common next sends heard newer = if heard || newer then listens common else owes_told common next sends
+
+-- a promise, after a tick without an order
+abbrev pub promised_on_told : Common → Waiting → Bool → Bool → TerminalState
+promised_on_told common waiting heard newer =
+    if newer then listens common else states.Promised record { common = common; waiting = waiting; heard = heard }
