@@ -12,3 +12,4 @@ pub mod Ticks
 pub mod Listened
 pub mod OwingTicks
 pub mod PromisedTicks
+pub mod AnsweringTicks

@@ -1,5 +1,5 @@
 -- What an order leaves, as a function of what the code knows of it.
-use Rattle.std.specs.Prelude.{ℕ, nat_lt, Bool, true, false, ◌||◌, if◌then◌else◌, Option, Some, None}
+use Rattle.std.specs.Prelude.{ℕ, nat_lt, Bool, true, false, not, ◌||◌, if◌then◌else◌, Option, Some, None}
 use Rattle.bus_base.specs.declared.samples.Channel.{Channel}
 use Rattle.bus_base.specs.declared.samples.Part.{Part}
 use Rattle.bus_model.specs.Orders.{due_after}
@@ -11,6 +11,7 @@ use Rattle.bus_terminal.specs.declared.handling.Waiting.{Waiting}
 use Rattle.bus_terminal.specs.declared.state.Sends.{Sends}
 use Rattle.bus_terminal.specs.declared.state.TerminalState.{TerminalState}
 use Rattle.bus_terminal.specs.declared.state.TerminalState.TheVariants as states
+use Rattle.bus_terminal.specs.declared.state.TerminalNext.{TerminalNext}
 use Rattle.bus_terminal.specs.declared.state.TerminalEvent.{TerminalEvent}
 use Rattle.bus_terminal.specs.declared.state.TerminalEvent.TheVariants as events
 
@@ -51,3 +52,21 @@ owing_on common next sends heard newer = if heard || newer then listens common e
 abbrev pub promised_on_told : Common → Waiting → Bool → Bool → TerminalState
 promised_on_told common waiting heard newer =
     if newer then listens common else states.Promised record { common = common; waiting = waiting; heard = heard }
+
+-- the channel on which an answer begins in a tick
+abbrev pub begins_told : Bool → Channel → Option Channel
+begins_told begins c = if begins then Some c else None
+
+-- an answer that runs, after a tick without an order
+abbrev pub answering_on : Common → Sends → ℕ → Bool → Bool → TerminalState
+answering_on common sends sent newer ignored =
+    if newer || not ignored then listens common else states.Answering record { common = common; sends = sends; sent = sent }
+
+-- control was accepted in a tick, unless a block was taken in it
+abbrev pub accepted_event : TerminalEvent → Bool → TerminalEvent
+accepted_event (events.Took delivery) accepted = events.Took delivery
+accepted_event events.Accepted accepted = events.Accepted
+accepted_event events.Nothing accepted = if accepted then events.Accepted else events.Nothing
+
+abbrev pub accepted_told : TerminalNext → Bool → TerminalNext
+accepted_told next accepted = record { state = next.state; event = accepted_event next.event accepted }
