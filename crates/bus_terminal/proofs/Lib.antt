@@ -13,3 +13,5 @@ pub mod Listened
 pub mod OwingTicks
 pub mod PromisedTicks
 pub mod AnsweringTicks
+pub mod Quiet
+pub mod Shows

@@ -2,3 +2,5 @@ pub mod Holding
 pub mod Handling
 pub mod Steps
 pub mod Stands
+pub mod TerminalStands
+pub mod Shown

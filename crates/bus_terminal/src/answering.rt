@@ -1,9 +1,12 @@
 //! A terminal whose answer runs.
-ghost use Rattle.std.specs.Prelude.{◌≡◌, ◌<◌, ◌^◌, ◌+◌, ◌==◌, ℕ, List, length};
+ghost use Rattle.std.specs.Prelude.{◌≡◌, ◌<◌, ◌^◌, ◌+◌, ◌==◌, ◌≤◌, ℕ, List, length, get_or};
 ghost use Rattle.bus_line.specs.declared.cutter.TheConstants.{LAG};
 ghost use Rattle.bus_formats.specs.Plans.{TerminalData};
 ghost use Rattle.bus_model.specs.Memory.{TimedLoad};
 ghost use Rattle.bus_model.specs.Hearing.{Moment};
+ghost use Rattle.bus_model.specs.Sending.{drive_sample};
+ghost use Rattle.bus_model.specs.Sending as sending;
+ghost use Rattle.bus_line.specs.Spelling.{spelling};
 ghost use Rattle.bus_model.specs.Standing.{Standing};
 ghost use Rattle.bus_terminal.specs.Stands.{AnsweringStands, NextStands};
 ghost use Rattle.bus_terminal.specs.Steps.{answering_on, begins_told, accepted_told, accepted_event};
@@ -12,8 +15,9 @@ use crate::Listening;
 use crate::common::{Common, Listened};
 use crate::handling::found;
 use crate::state::{Sends, TerminalEvent, TerminalNext, TerminalState, act};
-use bus_base::{Channel, Drive, Pair, Tick};
+use bus_base::{Channel, Drive, Pair, Part, Sample, Tick};
 use bus_line::spell;
+use bus_words::Word;
 
 /// Its answer has begun so many ticks ago, or begins in the next tick.
 #[derive(Drop)]
@@ -56,20 +60,36 @@ impl Answering {
     }
 
     /// What it sends in the next tick.
-    pub fn drive(&self) -> Drive {
-        let words = self.sends.answer.words.as_slice();
-        let place = self.sent / 40;
-        if place >= words.len() as u64 {
-            return Drive::Silent;
-        }
-        let samples = spell(words[place as usize]);
-        Drive::On {
-            channel: self.sends.channel,
-            sample: samples[(self.sent % 40) as usize],
-            part: self.sends.part,
-            last: self.sent + 1 == 40 * words.len() as u64,
-        }
+    pub(crate) fn drive(&self) -> Drive
+        ensures { result ≡ drive_sample self.now.sends.channel self.now.sends.part self.now.sends.answer.words.items self.now.sent }
+    {
+        drive_sample(self.sends.channel, self.sends.part, self.sends.answer.words.as_slice(), self.sent)
     }
+}
+
+// Sample `place` of the words, one after the other.
+fn drive_sample(channel: Channel, part: Part, words: &[Word], place: u64) -> Drive
+    requires { length words.now ≤ 33 }
+    ensures { result ≡ sending.drive_sample channel part words.now place }
+{
+    if place / 40 >= words.len() as u64 {
+        return Drive::Silent;
+    }
+    let word = words[(place / 40) as usize];
+    Drive::On {
+        channel,
+        sample: sample_at(word, (place % 40) as usize),
+        part,
+        last: place + 1 == 40 * words.len() as u64,
+    }
+}
+
+fn sample_at(word: Word, position: usize) -> Sample
+    requires { position < 40 }
+    ensures { result ≡ get_or (spelling word) position Sample.Quiet }
+{
+    let samples = spell(word);
+    samples[position]
 }
 
 // The channel on which the answer begins, where nothing of it was sent.

@@ -10,7 +10,8 @@ ghost use Rattle.bus_model.specs.Standing as spec;
 ghost use Rattle.bus_model.specs.Hearing.{Moment, heard_on};
 ghost use Rattle.bus_model.specs.Terminal.{marked_by};
 ghost use Rattle.bus_terminal.specs.Holding as holding;
-ghost use Rattle.bus_model.specs.Memory.{TimedLoad};
+ghost use Rattle.bus_model.specs.Memory.{TimedLoad, Memory as Kept};
+ghost use Rattle.bus_terminal.specs.TerminalStands.{quiet_moments};
 ghost use Rattle.bus_terminal.specs.Stands.{CommonStands};
 ghost use Rattle.bus_terminal.specs.Holding.{Listens, EarsStand, AreListened};
 
@@ -167,5 +168,19 @@ pub(crate) fn is_heard(heard: Pair, channel: Channel) -> bool
     match heard.on(channel) {
         Sample::Quiet => false,
         Sample::Plus | Sample::Minus => true,
+    }
+}
+
+impl Ears {
+    /// Ears that heard quiet ticks alone.
+    pub(crate) fn new() -> Ears
+        ensures {
+            (own n : ℕ) (memory : Kept) → EarsStand LAG own result (quiet_moments n) (spec.at_rest memory)
+        }
+    {
+        Ears {
+            a: Ear::new(),
+            b: Ear::new(),
+        }
     }
 }

@@ -9,9 +9,11 @@ mod listening;
 mod owing;
 mod promised;
 mod state;
+mod terminal;
 
 pub use answering::Answering;
 pub use listening::Listening;
 pub use owing::Owing;
 pub use promised::Promised;
 pub use state::{TerminalEvent, TerminalNext, TerminalState};
+pub use terminal::Terminal;

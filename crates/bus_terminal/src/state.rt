@@ -10,13 +10,14 @@ ghost use Rattle.bus_model.specs.Terminal.{order_now, marked_by};
 ghost use Rattle.bus_terminal.specs.Handling as handling;
 ghost use Rattle.bus_terminal.specs.Holding.{EarsStand};
 ghost use Rattle.bus_terminal.specs.Stands as stands;
+ghost use Rattle.bus_terminal.specs.Shown as shown;
 ghost use Rattle.bus_terminal.specs.declared.common.Common.{Common as CommonData};
 ghost use Rattle.bus_terminal.specs.Steps as spec;
 
 use crate::common::Common;
 use crate::handling::{Handled, Performed, Waiting, perform};
 use crate::{Answering, Listening, Owing, Promised};
-use bus_base::{Channel, Part, Tick};
+use bus_base::{Channel, Drive, Pair, Part, Tick};
 use bus_formats::{Delivery, TerminalPlan, dead_ticks};
 use bus_orders::{Answer, Duty, Taken};
 
@@ -153,5 +154,49 @@ pub(crate) fn act(common: Common, now: u64, handled: Handled, may_accept: bool) 
     TerminalNext {
         state: stand(common, superseded, now + 1, performed),
         event,
+    }
+}
+
+impl TerminalState {
+    /// Hears what both channels show in the tick `now`, the number of the ticks heard before. `may_accept` says that the terminal's station
+    /// has items left.
+    pub fn hear(self, now: Tick, heard: Pair, may_accept: bool) -> TerminalNext
+        requires {
+            (terminal : TerminalData) × (loads : List TimedLoad) × (past : List Moment) × (s : Standing) × stands.StateStands LAG terminal loads self past s
+                × (length past ≡ now.0) × (now.0 < 2 ^ 60)
+        }
+        ensures {
+            (terminal : TerminalData) (loads : List TimedLoad) (past : List Moment) (s : Standing) → stands.StateStands LAG terminal loads self past s →
+                length past ≡ now.0 → stands.NextStands LAG terminal loads result past (record { shown = heard; may = may_accept }) s
+        }
+    {
+        match self {
+            TerminalState::Listening(state) => state.hear(now, heard, may_accept),
+            TerminalState::Promised(state) => state.hear(now, heard, may_accept),
+            TerminalState::Owing(state) => state.hear(now, heard, may_accept),
+            TerminalState::Answering(state) => state.hear(now, heard, may_accept),
+        }
+    }
+}
+
+impl TerminalState {
+    pub(crate) fn common(&self) -> &Common
+        ensures { result.now ≡ shown.common_of self.now }
+    {
+        match self {
+            TerminalState::Listening(state) => &state.common,
+            TerminalState::Promised(state) => &state.common,
+            TerminalState::Owing(state) => &state.common,
+            TerminalState::Answering(state) => &state.common,
+        }
+    }
+
+    pub(crate) fn drive(&self) -> Drive
+        ensures { result ≡ shown.drive_told self.now }
+    {
+        match self {
+            TerminalState::Answering(state) => state.drive(),
+            TerminalState::Listening(_) | TerminalState::Promised(_) | TerminalState::Owing(_) => Drive::Silent,
+        }
     }
 }
