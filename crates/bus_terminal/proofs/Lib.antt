@@ -15,3 +15,4 @@ pub mod PromisedTicks
 pub mod AnsweringTicks
 pub mod Quiet
 pub mod Shows
+pub mod Waking

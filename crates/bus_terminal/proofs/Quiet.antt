@@ -13,7 +13,7 @@ use Rattle.bus_model.specs.Memory.{Memory, TimedLoad}
 use Rattle.bus_model.specs.Hearing.{Moment, heard_on}
 use Rattle.bus_model.specs.Standing.{Standing, at_rest}
 use Rattle.bus_model.specs.Terminal.{standing, after_tick}
-use Rattle.bus_terminal.specs.TerminalStands.{quiet_moments, quiet_moment}
+use Rattle.bus_terminal.specs.Quiet.{quiet_moments, quiet_moment}
 
 pub standing-tick : (k : ℕ) (t : TerminalData) (loads : List TimedLoad) (memory : Memory) (now : Moment) (past : List Moment) →
     standing k t loads memory (now ∷ past) ≡ after_tick k t loads now past (standing k t loads memory past)

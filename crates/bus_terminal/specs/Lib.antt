@@ -4,3 +4,4 @@ pub mod Steps
 pub mod Stands
 pub mod TerminalStands
 pub mod Shown
+pub mod Quiet

@@ -6,12 +6,13 @@ use Rattle.bus_line.specs.Past.{heard_within}
 use Rattle.bus_formats.specs.Plans.{TerminalData}
 use Rattle.bus_formats.specs.Times.{dead_ticks}
 use Rattle.bus_model.specs.Waits.{relay_wait}
-use Rattle.bus_model.specs.Memory.{TimedLoad, with_loads}
+use Rattle.bus_model.specs.Memory.{Memory, TimedLoad, with_loads}
 use Rattle.bus_model.specs.Orders.{Duty, free, owes, promises, due_after, Taken}
 use Rattle.bus_model.specs.Hearing.{Moment, heard_on}
-use Rattle.bus_model.specs.Standing.{Standing, mark_on, superseded, Handled, obeys}
+use Rattle.bus_model.specs.Standing.{Standing, at_rest, mark_on, superseded, Handled, obeys}
 use Rattle.bus_model.specs.Terminal.{given_up, is_over, after_tick, order_now, taken_by}
 use Rattle.bus_terminal.specs.Holding.{EarsStand}
+use Rattle.bus_terminal.specs.Quiet.{quiet_moments}
 use Rattle.bus_terminal.specs.Handling.{IsWaiting}
 use Rattle.bus_terminal.specs.declared.common.Common.{Common}
 use Rattle.bus_terminal.specs.declared.state.Sends.{Sends}
@@ -112,3 +113,10 @@ pub record NextStands (k : ℕ) (terminal : TerminalData) (loads : List TimedLoa
   pub state : StateStands k terminal loads next.state (now ∷ past) (after_tick k terminal loads now past s)
   pub taken : TakenIs next.event (length past) (channel_of s (order_now k terminal (now ∷ past) s))
       (taken_by k terminal loads (length past) now.may s (order_now k terminal (now ∷ past) s))
+
+-- a state that listens as after quiet ticks, with the plan and the memory of another
+abbrev pub RestsFrom : ℕ → TerminalState → Common → Type 0
+RestsFrom k (states.Listening state) common =
+    (state.common.plan ≡ common.plan) × (state.common.memory ≡ common.memory)
+      × ((own n : ℕ) (memory : Memory) → EarsStand k own state.common.ears (quiet_moments n) (at_rest memory))
+RestsFrom k _ common = ⊥

@@ -1,10 +1,9 @@
 -- For which hearings a terminal stands.
 use Rattle.std.specs.Prelude.{ℕ, zero, suc, false, List, [], ◌∷◌, ◌<◌, ◌≤◌, length, get_or}
-use Rattle.bus_base.specs.declared.samples.Sample.TheVariants.{Quiet}
 use Rattle.bus_formats.specs.Plans.{TerminalData}
 use Rattle.bus_formats.specs.declared.plan.Load.{Load}
 use Rattle.bus_model.specs.Memory.{TimedLoad}
-use Rattle.bus_model.specs.Hearing.{Hearing, Moment}
+use Rattle.bus_model.specs.Hearing.{Hearing}
 use Rattle.bus_model.specs.Terminal.{standing}
 use Rattle.bus_terminal.specs.Stands.{StateStands}
 use Rattle.bus_terminal.specs.declared.terminal.Terminal.{Terminal}
@@ -13,14 +12,6 @@ use Rattle.bus_terminal.specs.declared.terminal.Terminal.{Terminal}
 unfoldable pub TerminalStands : ℕ → TerminalData → List TimedLoad → Terminal → Hearing → Type 0
 TerminalStands k plan loads terminal hearing =
     StateStands k plan loads terminal.state hearing.ticks (standing k plan loads hearing.memory hearing.ticks)
-
--- so many ticks in which both channels were quiet
-abbrev pub quiet_moment : Moment
-quiet_moment = record { shown = record { a = Quiet; b = Quiet }; may = false }
-
-abbrev pub quiet_moments : ℕ → List Moment
-quiet_moments zero = []
-quiet_moments (suc n) = quiet_moment ∷ quiet_moments n
 
 -- the loads of a plan, each for a subaddress 1 to 29 and of 1 to 32 words
 abbrev pub HasLoads : List Load → Type 0

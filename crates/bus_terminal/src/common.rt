@@ -11,7 +11,7 @@ ghost use Rattle.bus_model.specs.Hearing.{Moment, heard_on};
 ghost use Rattle.bus_model.specs.Terminal.{marked_by};
 ghost use Rattle.bus_terminal.specs.Holding as holding;
 ghost use Rattle.bus_model.specs.Memory.{TimedLoad, Memory as Kept};
-ghost use Rattle.bus_terminal.specs.TerminalStands.{quiet_moments};
+ghost use Rattle.bus_terminal.specs.Quiet.{quiet_moments};
 ghost use Rattle.bus_terminal.specs.Stands.{CommonStands};
 ghost use Rattle.bus_terminal.specs.Holding.{Listens, EarsStand, AreListened};
 

@@ -1,5 +1,5 @@
 //! The terminal that the layer above uses.
-ghost use Rattle.std.specs.Prelude.{◌≡◌, ◌<◌, ◌^◌, ◌∷◌, [], ℕ, List, length};
+ghost use Rattle.std.specs.Prelude.{◌≡◌, ◌<◌, ◌^◌, ◌∷◌, [], ℕ, List, length, false};
 ghost use Rattle.bus_line.specs.declared.cutter.TheConstants.{LAG};
 ghost use Rattle.bus_formats.specs.Plans.{TerminalData};
 ghost use Rattle.bus_model.specs.Memory.{TimedLoad, first_memory, clear_registers, no_blocks, loaded};
@@ -7,7 +7,11 @@ ghost use Rattle.bus_model.specs.Hearing.{Hearing, Moment};
 ghost use Rattle.bus_model.specs.Standing.{Standing};
 ghost use Rattle.bus_model.specs.Terminal.{took_now, drives, memory_after, standing, order_now};
 ghost use Rattle.bus_terminal.specs.Stands.{TerminalFits, StateStands, NextStands, TakenIs, channel_of};
-ghost use Rattle.bus_terminal.specs.TerminalStands.{TerminalStands, HasLoads, quiet_moments};
+ghost use Rattle.bus_terminal.specs.TerminalStands.{TerminalStands, HasLoads};
+ghost use Rattle.bus_terminal.specs.Quiet.{quiet_moments};
+ghost use Rattle.bus_terminal.specs.Stands.{AreMade, RestsFrom};
+ghost use Rattle.bus_terminal.specs.Shown.{common_of};
+ghost use Rattle.bus_model.specs.Memory as kept;
 
 use crate::Listening;
 use crate::common::{Common, Ears};
@@ -15,7 +19,8 @@ use crate::state::{TerminalEvent, TerminalState};
 use bus_base::{Drive, Pair, Tick};
 use bus_buffers::Buffers;
 use bus_formats::{Load, Registers, TerminalPlan};
-use bus_orders::Memory;
+use bus_orders::{Memory, status_of};
+use bus_words::Status;
 
 /// A remote terminal.
 #[derive(Drop)]
@@ -96,6 +101,34 @@ impl Terminal {
         self.state.common().memory.buffers()
     }
 
+    /// Its status word, formed from the registers as they stand, without acceptance.
+    pub fn status(&self) -> Status
+        requires { (plan : TerminalData) × (loads : List TimedLoad) × (hearing : Hearing) × TerminalStands LAG plan loads self.now hearing }
+        ensures {
+            (plan : TerminalData) (loads : List TimedLoad) (hearing : Hearing) → TerminalStands LAG plan loads self.now hearing →
+                result ≡ kept.status_of plan (memory_after LAG plan loads hearing).registers false
+        }
+    {
+        let common = self.state.common();
+        status_of(&common.plan, *common.memory.registers(), false)
+    }
+
+    /// It listens as after any number of quiet ticks; what it keeps stays.
+    pub fn wake(&mut self)
+        ensures {
+            (plan : TerminalData) (loads : List TimedLoad) (hearing : Hearing) (n : ℕ) → TerminalStands LAG plan loads self.old hearing → AreMade plan.address n loads →
+                TerminalStands LAG plan loads self.new (record { memory = memory_after LAG plan loads hearing; ticks = quiet_moments n })
+        }
+    {
+        self.rest()
+    }
+
+    fn rest(&mut self)
+        ensures { RestsFrom LAG self.new.state (common_of self.old.state) }
+    {
+        core::mem::replace_with(&mut self.state, (), |state: TerminalState, unit: ()| (rested(state), unit))
+    }
+
     fn step(&mut self, now: Tick, heard: Pair, may_accept: bool) -> TerminalEvent
         requires {
             (terminal : TerminalData) × (loads : List TimedLoad) × (past : List Moment) × (s : Standing) × StateStands LAG terminal loads self.old.state past s
@@ -111,6 +144,26 @@ impl Terminal {
             (next.state, next.event)
         })
     }
+}
+
+// The state that listens with fresh ears.
+fn rested(state: TerminalState) -> TerminalState
+    ensures { RestsFrom LAG result (common_of state) }
+{
+    let common = match state {
+        TerminalState::Listening(state) => state.common,
+        TerminalState::Promised(state) => state.common,
+        TerminalState::Owing(state) => state.common,
+        TerminalState::Answering(state) => state.common,
+    };
+    let Common { plan, memory, .. } = common;
+    TerminalState::Listening(Listening {
+        common: Common {
+            plan,
+            memory,
+            ears: Ears::new(),
+        },
+    })
 }
 
 // Clear registers, and empty blocks but for these loads.
