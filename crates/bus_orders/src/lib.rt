@@ -13,5 +13,5 @@ mod registers;
 pub use done::{Answer, Done, Duty, Promise, Taken};
 pub use memory::Memory;
 pub use obeying::obey;
-pub use registers::status_of;
 pub use promise::{keep_promise, unkept};
+pub use registers::status_of;

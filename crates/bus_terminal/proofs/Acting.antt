@@ -32,8 +32,8 @@ place-of k heard c end n here e = sym (length-heard c heard) ∙ e
 -- where the order's burst ended, the end has just become known
 order-recent : (k : ℕ) (terminal : TerminalData) (heard : List Moment) (s : Standing) (memory : Memory) (may : Bool) (order : Handled) → Ends k heard s order →
     ((done_by k terminal s memory may order).duty ≡ free)
-      ⊎ ((length heard ≡ (after_order s order (done_by k terminal s memory may order)).end + suc k)
-        × (quiet (heard_on (after_order s order (done_by k terminal s memory may order)).channel heard) ≡ suc k))
+    ⊎ ((length heard ≡ (after_order s order (done_by k terminal s memory may order)).end + suc k)
+    × (quiet (heard_on (after_order s order (done_by k terminal s memory may order)).channel heard) ≡ suc k))
 order-recent k terminal heard s memory may (obeys c end order rest) (burst, e, at) =
     let place = ended-place k (heard_on c heard) burst e in
     inr (omega (arith, place.0, length-heard c heard, at), place.1)
@@ -56,14 +56,14 @@ pub common-after : (k : ℕ) (terminal : TerminalData) (loads : List TimedLoad) 
     after ≡ (done_by k terminal s common.memory now.may order).memory →
     EarsStand k terminal.address ears (now ∷ past) (marked_by k terminal now past s (after_order s order (done_by k terminal s common.memory now.may order))) →
     CommonStands k terminal loads (record { plan = common.plan; memory = after; ears = ears }) (now ∷ past)
-      (marked_by k terminal now past s (after_order s order (done_by k terminal s common.memory now.may order)))
+    (marked_by k terminal now past s (after_order s order (done_by k terminal s common.memory now.may order)))
 common-after k terminal loads common after ears past now s order st is left hear =
     let o : Obeyed = done_by k terminal s common.memory now.may order in
     let same : o.memory.transmit ≡ common.memory.transmit = order-keeps k terminal s common.memory now.may order in
     let has : with_loads terminal.address (length past) loads o.memory ≡ o.memory =
-      absorbed-like terminal.address (length past) loads common.memory o.memory st.absorbed same in
+    absorbed-like terminal.address (length past) loads common.memory o.memory st.absorbed same in
     let has_more : with_loads terminal.address (suc (length past)) loads o.memory ≡ o.memory =
-      loads-same terminal.address (length past) loads o.memory st.made ∙ has in
+    loads-same terminal.address (length past) loads o.memory st.made ∙ has in
     let memory_is : (after_order s order o).memory ≡ o.memory = (order-leaves s order o).0 in
     record {
       plan = st.plan;
@@ -83,17 +83,17 @@ pub acted : (k : ℕ) (terminal : TerminalData) (loads : List TimedLoad) (common
     EarsStand k terminal.address ears (now ∷ past) (marked_by k terminal now past s (after_order s order (done_by k terminal s common.memory now.may order))) →
     b ≡ superseded k (marked_by k terminal now past s (after_order s order (done_by k terminal s common.memory now.may order))) →
     StateStands k terminal loads
-      (stands_told (record { plan = common.plan; memory = after; ears = ears }) b n performed.channel performed.end performed.part performed.done.duty)
-      (now ∷ past) (marked_by k terminal now past s (after_order s order (done_by k terminal s common.memory now.may order)))
+    (stands_told (record { plan = common.plan; memory = after; ears = ears }) b n performed.channel performed.end performed.part performed.done.duty)
+    (now ∷ past) (marked_by k terminal now past s (after_order s order (done_by k terminal s common.memory now.may order)))
 acted k terminal loads common after ears past now s order performed b n st is here does hear is_b =
     let o : Obeyed = done_by k terminal s common.memory now.may order in
     let leaves = order-leaves s order o in
     let left : Standing = marked_by k terminal now past s (after_order s order o) in
     let recent : Recent k (now ∷ past) left =
-      elim (order-recent k terminal (now ∷ past) s common.memory now.may order (now-ends k terminal now past s order is)) [
-        | inl none ↦ inl (leaves.1 ∙ none)
-        | inr place ↦ inr place
-      ] in
+    elim (order-recent k terminal (now ∷ past) s common.memory now.may order (now-ends k terminal now past s order is)) [
+      | inl none ↦ inl (leaves.1 ∙ none)
+      | inr place ↦ inr place
+    ] in
     left-stands k terminal loads (record { plan = common.plan; memory = after; ears = ears }) n (now ∷ past) left performed.channel performed.end performed.part performed.done.duty b
-      (common-after k terminal loads common after ears past now s order st is does.done.memory hear)
-      here (sym does.channel) (sym does.end) (λ owed. sym (does.part (ap is_owed (sym leaves.1) ∙ owed))) is_b recent (does.done.duty ∙ sym leaves.1)
+    (common-after k terminal loads common after ears past now s order st is does.done.memory hear)
+    here (sym does.channel) (sym does.end) (λ owed. sym (does.part (ap is_owed (sym leaves.1) ∙ owed))) is_b recent (does.done.duty ∙ sym leaves.1)

@@ -47,17 +47,18 @@ begins-is : (k : ℕ) (terminal : TerminalData) (loads : List TimedLoad) (state 
     begins k terminal past s ≡ (state.sent == 0)
 begins-is k terminal loads state past s st =
     three (is_owed s.duty) (length past == due_after terminal s.end) (given_up k terminal (heard_on s.channel past) s) (ap is_owed st.sends.duty) st.kept
-      ∙ due-test (length past) (due_after terminal s.end) state.sent st.sent where
-  three : (a b c : Bool) → a ≡ true → c ≡ false → (a && b && not c) ≡ b
-  three true true false e f = refl
-  three true false false e f = refl
-  three false b c e f = cc
-  three true b true e f = cc
-  due-test : (n due sent : ℕ) → due + sent ≡ n → (n == due) ≡ (sent == 0)
-  due-test n due sent e = elim (cases_Bool (sent == 0)) [
-    | inl none ↦ (let is : sent ≡ 0 = eqb-true sent 0 none in rw none (eq-eqb n due (omega (arith, is, e))))
-    | inr some ↦ (let is : (n == due) ≡ false = grind (arith, nat_tests, some, e) in rw (some, is) refl)
-  ]
+    ∙ due-test (length past) (due_after terminal s.end) state.sent st.sent where
+      three : (a b c : Bool) → a ≡ true → c ≡ false → (a && b && not c) ≡ b
+      three true true false e f = refl
+      three true false false e f = refl
+      three false b c e f = cc
+      three true b true e f = cc
+
+      due-test : (n due sent : ℕ) → due + sent ≡ n → (n == due) ≡ (sent == 0)
+      due-test n due sent e = elim (cases_Bool (sent == 0)) [
+        | inl none ↦ (let is : sent ≡ 0 = eqb-true sent 0 none in rw none (eq-eqb n due (omega (arith, is, e))))
+        | inr some ↦ (let is : (n == due) ≡ false = grind (arith, nat_tests, some, e) in rw (some, is) refl)
+      ]
 
 begins-channel : (b : Bool) (c d : Channel) → begins_on (begins_told b c) d ≡ (b && same_channel c d)
 begins-channel true c d = refl
@@ -67,8 +68,8 @@ pub answering-listens : (k : ℕ) (terminal : TerminalData) (loads : List TimedL
     Listens k terminal (begins_told (state.sent == 0) state.sends.channel) past s
 answering-listens k terminal loads state past s st = λ c.
     begins-channel (state.sent == 0) state.sends.channel c
-      ∙ ap (λ (b : Bool). b && same_channel state.sends.channel c) (sym (begins-is k terminal loads state past s st))
-      ∙ ap (λ (d : Channel). begins k terminal past s && same_channel d c) (sym st.sends.channel)
+    ∙ ap (λ (b : Bool). b && same_channel state.sends.channel c) (sym (begins-is k terminal loads state past s st))
+    ∙ ap (λ (d : Channel). begins k terminal past s && same_channel d c) (sym st.sends.channel)
 
 -- the mark of the answer
 marked-if : (b : Bool) (n due : ℕ) (o : Option ℕ) → (b ≡ true → n ≡ due) → (b ≡ false → o ≡ Some due) → (if b then Some n else o) ≡ Some due
@@ -80,6 +81,7 @@ same-self b c = both b (same_channel c c) (self c) where
   both : (b d : Bool) → d ≡ true → (b && d) ≡ b
   both true d e = e
   both false d e = refl
+
   self : (c : Channel) → same_channel c c ≡ true
   self A = refl
   self B = refl
@@ -89,12 +91,12 @@ pub answer-mark : (k : ℕ) (terminal : TerminalData) (loads : List TimedLoad) (
 answer-mark k terminal loads state past now s st =
     let due : ℕ = due_after terminal s.end in
     let test : (begins k terminal past s && same_channel s.channel s.channel) ≡ (state.sent == 0) =
-      same-self (begins k terminal past s) s.channel ∙ begins-is k terminal loads state past s st in
+    same-self (begins k terminal past s) s.channel ∙ begins-is k terminal loads state past s st in
     sent-of k terminal now past s s.channel
-      ∙ ap (λ (b : Bool). if b then Some (length past) else mark_on s.sent s.channel) test
-      ∙ marked-if (state.sent == 0) (length past) due (mark_on s.sent s.channel)
-        (λ none. let is : state.sent ≡ 0 = eqb-true state.sent 0 none in omega (arith, is, st.sent))
-        (λ some. st.marked (grind (arith, nat_tests, some)))
+    ∙ ap (λ (b : Bool). if b then Some (length past) else mark_on s.sent s.channel) test
+    ∙ marked-if (state.sent == 0) (length past) due (mark_on s.sent s.channel)
+    (λ none. let is : state.sent ≡ 0 = eqb-true state.sent 0 none in omega (arith, is, st.sent))
+    (λ some. st.marked (grind (arith, nat_tests, some)))
 
 not-over : (o : Option ℕ) (b : Bool) → b ≡ is_none o → is_some o ≡ not b
 not-over None b e = rw e refl
@@ -108,9 +110,9 @@ answering-left k terminal loads common past s sends sent true ignored same is ne
     record { common = same; rests_now = rests-superseded k terminal past s s.duty (sym newer_is) }
 answering-left k terminal loads common past s sends sent false false same is newer_is within over at mark =
     record { common = same; rests_now = subst (λ (d : Duty). rests k terminal past s d ≡ true) (sym is.duty) (rw over (up (given_up k terminal (heard_on s.channel past) s))) } where
-  up : (a : Bool) → (a || true) ≡ true
-  up true = refl
-  up false = refl
+      up : (a : Bool) → (a || true) ≡ true
+      up true = refl
+      up false = refl
 answering-left k terminal loads common past s sends sent false true same is newer_is within over at mark =
     record { common = same; sends = is; kept = kept-when k terminal past s (sym newer_is) within; runs = over; sent = at; marked = λ some. mark }
 
@@ -126,17 +128,17 @@ answering-state k terminal loads state common past now s sent newer ignored st p
     let old = kept-parts k terminal past s st.kept in
     let mark : mark_on left.sent s.channel ≡ Some due = answer-mark k terminal loads state past now s st in
     let ignored_here : ignored ≡ ignored_from k (heard_on s.channel (now ∷ past)) (mark_on left.sent s.channel) =
-      ignored_is ∙ ap (λ (c : Channel). ignored_from k (heard_on c (now ∷ past)) (mark_on left.sent c)) (sym st.sends.channel) in
+    ignored_is ∙ ap (λ (c : Channel). ignored_from k (heard_on c (now ∷ past)) (mark_on left.sent c)) (sym st.sends.channel) in
     let ignored_due : ignored ≡ is_none (end_since k (heard_on s.channel (now ∷ past)) due) = ignored_here ∙ ap (ignored_from k (heard_on s.channel (now ∷ past))) mark in
     let late : nat_lt (length (heard_on s.channel past)) due ≡ false = le-ltb (length (heard_on s.channel past)) due (omega (arith, length-heard s.channel past, st.sent)) in
     let within : heard_within (heard_on s.channel (now ∷ past)) s.end due ≡ false =
-      within-same (sample_on now.shown s.channel) (heard_on s.channel past) s.end due (rw late (none (not (is_quiet (sample_on now.shown s.channel))))) old.1 in
+    within-same (sample_on now.shown s.channel) (heard_on s.channel past) s.end due (rw late (none (not (is_quiet (sample_on now.shown s.channel))))) old.1 in
     answering-left k terminal loads common (now ∷ past) left state.sends sent newer ignored (common-kept k terminal loads state.common common past now s st.common plan memory hear)
-      (record { channel = st.sends.channel; end = st.sends.end; part = st.sends.part; duty = st.sends.duty }) newer_is within
-      (not-over (end_since k (heard_on s.channel (now ∷ past)) due) ignored ignored_due) (omega (arith, st.sent, more)) mark where
-  none : (b : Bool) → (b && false) ≡ false
-  none true = refl
-  none false = refl
+    (record { channel = st.sends.channel; end = st.sends.end; part = st.sends.part; duty = st.sends.duty }) newer_is within
+    (not-over (end_since k (heard_on s.channel (now ∷ past)) due) ignored ignored_due) (omega (arith, st.sent, more)) mark where
+      none : (b : Bool) → (b && false) ≡ false
+      none true = refl
+      none false = refl
 
 pub answering-none : (k : ℕ) (terminal : TerminalData) (loads : List TimedLoad) (state : Answering) (common : Common) (past : List Moment) (now : Moment) (s : Standing) (sent : ℕ) (newer ignored accepted : Bool) →
     AnsweringStands k terminal loads state past s → order_now k terminal (now ∷ past) s ≡ None → common.plan ≡ state.common.plan → common.memory ≡ state.common.memory →
@@ -146,5 +148,5 @@ pub answering-none : (k : ℕ) (terminal : TerminalData) (loads : List TimedLoad
     NextStands k terminal loads (accepted_told (record { state = answering_on common state.sends sent newer ignored; event = events.Nothing }) accepted) past now s
 answering-none k terminal loads state common past now s sent newer ignored accepted st none plan memory hear more newer_is ignored_is =
     accepted-next k terminal loads (record { state = answering_on common state.sends sent newer ignored; event = events.Nothing }) past now s accepted
-      (none-next k terminal loads (answering_on common state.sends sent newer ignored) past now s none
-        (answering-state k terminal loads state common past now s sent newer ignored st plan memory hear more newer_is ignored_is))
+    (none-next k terminal loads (answering_on common state.sends sent newer ignored) past now s none
+    (answering-state k terminal loads state common past now s sent newer ignored st plan memory hear more newer_is ignored_is))

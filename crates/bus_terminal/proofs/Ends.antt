@@ -45,9 +45,9 @@ by-last k terminal heard s c burst (Some last) e =
     by-test (EndsIf k heard s) (outrun s c) None (Some (obeys c (end_of burst) last (rest_of burst))) (λ _. tt) (λ _. (burst, e, refl))
 by-last k terminal heard s c burst None e =
     by-test (EndsIf k heard s) (promised_on k s c && nat_le burst.first (s.end + relay_wait)) (Some (settles (end_of burst) burst.slots (rest_of burst))) None
-      (λ both. let on : s.channel ≡ c = same-true s.channel c (second-true (is_promise s.duty) (same_channel s.channel c) (not (superseded k s)) (nat_le burst.first (s.end + relay_wait)) both) in
-        (burst, ap (λ (x : Channel). ended_now k (heard_on x heard)) on ∙ e, refl))
-      (λ _. tt)
+    (λ both. let on : s.channel ≡ c = same-true s.channel c (second-true (is_promise s.duty) (same_channel s.channel c) (not (superseded k s)) (nat_le burst.first (s.end + relay_wait)) both) in
+    (burst, ap (λ (x : Channel). ended_now k (heard_on x heard)) on ∙ e, refl))
+    (λ _. tt)
 
 by-ended : (k : ℕ) (terminal : TerminalData) (heard : List Moment) (s : Standing) (c : Channel) (o : Option Burst) → ended_now k (heard_on c heard) ≡ o →
     EndsIf k heard s (order_of k terminal s c o)
@@ -57,8 +57,8 @@ by-ended k terminal heard s c (Some burst) e = by-last k terminal heard s c burs
 on-ends : (k : ℕ) (terminal : TerminalData) (now : Moment) (past : List Moment) (s : Standing) (c : Channel) → EndsIf k (now ∷ past) s (order_on k terminal (now ∷ past) s c)
 on-ends k terminal now past s c =
     by-test (EndsIf k (now ∷ past) s) (ignored_from k (heard_on c past) (mark_on s.sent c)) None
-      (order_of k terminal s c (ended_now k (heard_on c (now ∷ past)))) (λ _. tt)
-      (λ _. by-ended k terminal (now ∷ past) s c (ended_now k (heard_on c (now ∷ past))) refl)
+    (order_of k terminal s c (ended_now k (heard_on c (now ∷ past)))) (λ _. tt)
+    (λ _. by-ended k terminal (now ∷ past) s c (ended_now k (heard_on c (now ∷ past))) refl)
 
 either-ends : (k : ℕ) (heard : List Moment) (s : Standing) (a b : Option Handled) → EndsIf k heard s a → EndsIf k heard s b → EndsIf k heard s (option_or a b)
 either-ends k heard s None b p q = q
@@ -72,9 +72,9 @@ pub now-ends : (k : ℕ) (terminal : TerminalData) (now : Moment) (past : List M
     Ends k (now ∷ past) s order
 now-ends k terminal now past s order e =
     let all : EndsIf k (now ∷ past) s (order_now k terminal (now ∷ past) s) =
-      either-ends k (now ∷ past) s (order_on k terminal (now ∷ past) s A) _ (on-ends k terminal now past s A)
-        (either-ends k (now ∷ past) s (order_on k terminal (now ∷ past) s B) _ (on-ends k terminal now past s B)
-          (out-ends k (now ∷ past) s (promised_on k s s.channel && (length (now ∷ past) == suc (s.end + relay_wait)) && not (heard_within (heard_on s.channel (now ∷ past)) s.end (length (now ∷ past)))))) in
+    either-ends k (now ∷ past) s (order_on k terminal (now ∷ past) s A) _ (on-ends k terminal now past s A)
+    (either-ends k (now ∷ past) s (order_on k terminal (now ∷ past) s B) _ (on-ends k terminal now past s B)
+    (out-ends k (now ∷ past) s (promised_on k s s.channel && (length (now ∷ past) == suc (s.end + relay_wait)) && not (heard_within (heard_on s.channel (now ∷ past)) s.end (length (now ∷ past)))))) in
     subst (EndsIf k (now ∷ past) s) e all
 
 -- ---- the ticks since

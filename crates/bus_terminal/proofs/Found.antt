@@ -49,17 +49,17 @@ without : (k : ℕ) (terminal : TerminalData) (s : Standing) (c : Channel) (wait
 without k terminal s c None told_burst burst none is slots = rw (none c) tt
 without k terminal s c (Some w) told_burst burst awaits is slots =
     let test : (promised_on k s c && nat_le burst.first (s.end + relay_wait)) ≡ (same_channel w.channel c && nat_le told_burst.first (w.end + relay_wait)) =
-      ap (λ (b : Bool). b && nat_le burst.first (s.end + relay_wait)) (promised-with k w s c awaits)
-        ∙ ap (λ (n : ℕ). same_channel w.channel c && nat_le n (s.end + relay_wait)) (sym is.first)
-        ∙ ap (λ (n : ℕ). same_channel w.channel c && nat_le told_burst.first (n + relay_wait)) awaits.0.end in
+    ap (λ (b : Bool). b && nat_le burst.first (s.end + relay_wait)) (promised-with k w s c awaits)
+    ∙ ap (λ (n : ℕ). same_channel w.channel c && nat_le n (s.end + relay_wait)) (sym is.first)
+    ∙ ap (λ (n : ℕ). same_channel w.channel c && nat_le told_burst.first (n + relay_wait)) awaits.0.end in
     subst (λ (b : Bool). AreHandled (settles_with c (Some w) told_burst) (if b then Some (settles (end_of burst) burst.slots (rest_of burst)) else None) s)
-      (sym test)
-      (settled k terminal s c w told_burst burst (same_channel w.channel c && nat_le told_burst.first (w.end + relay_wait)) awaits.0 is.end is.rest slots)
+    (sym test)
+    (settled k terminal s c w told_burst burst (same_channel w.channel c && nat_le told_burst.first (w.end + relay_wait)) awaits.0 is.end is.rest slots)
 
 commanded : (k : ℕ) (terminal : TerminalData) (s : Standing) (c : Channel) (told_burst : HeardBurst) (burst : Burst) (b : Bool) (command : ℕ) (tail : List (Option Word)) →
     IsToldBurst MOST_SLOTS terminal.address told_burst burst → told_burst.slots.items ≡ take MOST_SLOTS tail →
     AreHandled (if b then None else Some (told.Obeys c command told_burst))
-      (if b then None else Some (obeys c (end_of burst) (record { command = command; tail = tail }) (rest_of burst))) s
+    (if b then None else Some (obeys c (end_of burst) (record { command = command; tail = tail }) (rest_of burst))) s
 commanded k terminal s c told_burst burst true command tail is slots = tt
 commanded k terminal s c told_burst burst false command tail is slots =
     record { channel_is = refl; end_is = is.end; command_is = refl; slots_are = slots; rest_is = is.rest }
@@ -89,7 +89,7 @@ pub order-found : (k : ℕ) (terminal : TerminalData) (past : List Moment) (mome
     AreHandled (order_told c heard newer waiting) (order_on k terminal (moment ∷ past) s c) s
 order-found k terminal past moment s c heard newer waiting is older awaits =
     rw is.ignored_is (by-burst k terminal s c waiting newer (ignored_from k (heard_on c past) (mark_on s.sent c)) heard.burst
-      (ended_now k (heard_on c (moment ∷ past))) awaits older is.burst)
+    (ended_now k (heard_on c (moment ∷ past))) awaits older is.burst)
 
 either : (s : Standing) (a b : Option Handled) (o p : Option standing.Handled) → AreHandled a o s → AreHandled b p s → AreHandled (option_or a b) (option_or o p) s
 either s None b None p first second = second
@@ -106,4 +106,4 @@ pub all-found : (k : ℕ) (terminal : TerminalData) (past : List Moment) (moment
     AreHandled (handled_told heard waiting out) (order_now k terminal (moment ∷ past) s) s
 all-found k terminal past moment s heard waiting out are awaits last =
     either s _ _ _ _ (order-found k terminal past moment s A heard.a heard.a_outrun waiting are.heard_a are.outrun_a awaits)
-      (either s _ _ _ _ (order-found k terminal past moment s B heard.b heard.b_outrun waiting are.heard_b are.outrun_b awaits) last)
+    (either s _ _ _ _ (order-found k terminal past moment s B heard.b heard.b_outrun waiting are.heard_b are.outrun_b awaits) last)

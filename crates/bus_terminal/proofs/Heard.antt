@@ -19,7 +19,7 @@ length-heard c (moment ∷ past) = ap suc (length-heard c past)
 pub ear-lands : (k most own now : ℕ) (terminal : TerminalData) (past : List Moment) (s : Standing) (moment : Moment) (heard : Pair) (c : Channel) (ear : Ear) (b : Bool) →
     terminal.address ≡ own → length past ≡ now → moment.shown ≡ heard → b ≡ (begins k terminal past s && same_channel s.channel c) →
     EarStands k most own ear (sample_on heard c ∷ heard_on c past) (sent_by now b (mark_on s.sent c))
-      (addressed_by own now (slot_now k (sample_on heard c ∷ heard_on c past)) (ignored_from k (heard_on c past) (mark_on s.sent c)) (mark_on s.addressed c)) →
+    (addressed_by own now (slot_now k (sample_on heard c ∷ heard_on c past)) (ignored_from k (heard_on c past) (mark_on s.sent c)) (mark_on s.addressed c)) →
     EarStands k most own ear (heard_on c (moment ∷ past)) (sent_on k terminal past s c) (addressed_on k terminal (moment ∷ past) s c)
 ear-lands k most own now terminal past s moment heard c ear b own_is here shown begun st =
     rw (← begun, shown, own_is, here) st

@@ -54,9 +54,9 @@ pub common-kept : (k : ℕ) (terminal : TerminalData) (loads : List TimedLoad) (
 common-kept k terminal loads before common past now s st plan memory hear =
     let left : Standing = marked_by k terminal now past s s in
     let first : CommonStands k terminal loads (record { plan = before.plan; memory = before.memory; ears = common.ears }) (now ∷ past) left =
-      common-same k terminal loads before common.ears past now s st hear in
+    common-same k terminal loads before common.ears past now s st hear in
     subst (λ (m : Memory). CommonStands k terminal loads (record { plan = common.plan; memory = m; ears = common.ears }) (now ∷ past) left) (sym memory)
-      (subst (λ (p : TerminalData). CommonStands k terminal loads (record { plan = p; memory = before.memory; ears = common.ears }) (now ∷ past) left) (sym plan) first)
+    (subst (λ (p : TerminalData). CommonStands k terminal loads (record { plan = p; memory = before.memory; ears = common.ears }) (now ∷ past) left) (sym plan) first)
 
 pub rests-none : (k : ℕ) (terminal : TerminalData) (loads : List TimedLoad) (state : Listening) (common : Common) (past : List Moment) (now : Moment) (s : Standing) →
     ListeningStands k terminal loads state past s → order_now k terminal (now ∷ past) s ≡ None → common.plan ≡ state.common.plan → common.memory ≡ state.common.memory →

@@ -50,9 +50,9 @@ data-keeps : (terminal : TerminalData) (memory : Memory) (c : Channel) (command 
     Keeps memory (obey_data terminal memory c command words may registers)
 data-keeps terminal memory c command words may registers =
     by-test (Keeps memory) (is_illegal terminal command) _ _ refl
-      (by-test (Keeps memory) (has_code command 2) _ _ refl
-        (by-test (Keeps memory) (has_code command 18) _ _ refl
-          (by-test (Keeps memory) (has_code command 8) _ _ refl (after-keeps memory (mode_effect (marked registers command false) c command words) (block_taken terminal command words)))))
+    (by-test (Keeps memory) (has_code command 2) _ _ refl
+    (by-test (Keeps memory) (has_code command 18) _ _ refl
+    (by-test (Keeps memory) (has_code command 8) _ _ refl (after-keeps memory (mode_effect (marked registers command false) c command words) (block_taken terminal command words)))))
 
 tail-keeps : (terminal : TerminalData) (memory : Memory) (c : Channel) (command : ℕ) (may : Bool) (tail : Tail) → Keeps memory (obey_tail terminal memory c command may tail)
 tail-keeps terminal memory c command may unexpected = refl
@@ -104,7 +104,7 @@ loads-leave address now (load ∷ loads) m =
 memory-same : (m n : Memory) → m.registers ≡ n.registers → m.received ≡ n.received → m.transmit ≡ n.transmit → m ≡ n
 memory-same m n p q r =
     ap (λ (x : Registers). record m { registers = x }) p ∙ ap (λ (x : List (List ℕ)). record n { received = x; transmit = m.transmit }) q
-      ∙ ap (λ (x : List (List ℕ)). record n { transmit = x }) r
+    ∙ ap (λ (x : List (List ℕ)). record n { transmit = x }) r
 
 -- a memory with the same transmit blocks has the loads too
 pub absorbed-like : (address now : ℕ) (loads : List TimedLoad) (m n : Memory) → with_loads address now loads m ≡ m → n.transmit ≡ m.transmit →
@@ -112,4 +112,4 @@ pub absorbed-like : (address now : ℕ) (loads : List TimedLoad) (m n : Memory) 
 absorbed-like address now loads m n has same =
     let leave = loads-leave address now loads n in
     memory-same (with_loads address now loads n) n leave.0 leave.1
-      (loads-like address now loads n m same ∙ ap (λ (x : Memory). x.transmit) has ∙ sym same)
+    (loads-like address now loads n m same ∙ ap (λ (x : Memory). x.transmit) has ∙ sym same)

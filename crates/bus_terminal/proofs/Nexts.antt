@@ -26,14 +26,14 @@ tick-is : (k : ℕ) (terminal : TerminalData) (loads : List TimedLoad) (before :
     after_tick k terminal loads now past s ≡ marked_by k terminal now past s (after_order s order (done_by k terminal s before.memory now.may order))
 tick-is k terminal loads before past now s order st is =
     ap (λ (o : Option Handled). marked_by k terminal now past s (ordered k terminal loads (length past) now.may s o)) is
-      ∙ ap (λ (m : Memory). marked_by k terminal now past s (after_order s order (done_by k terminal s m now.may order))) (sym st.memory)
+    ∙ ap (λ (m : Memory). marked_by k terminal now past s (after_order s order (done_by k terminal s m now.may order))) (sym st.memory)
 
 taken-is : (k : ℕ) (terminal : TerminalData) (loads : List TimedLoad) (before : Common) (past : List Moment) (now : Moment) (s : Standing) (order : Handled) →
     CommonStands k terminal loads before past s → order_now k terminal (now ∷ past) s ≡ Some order →
     taken_by k terminal loads (length past) now.may s (order_now k terminal (now ∷ past) s) ≡ (done_by k terminal s before.memory now.may order).taken
 taken-is k terminal loads before past now s order st is =
     ap (λ (o : Option Handled). taken_by k terminal loads (length past) now.may s o) is
-      ∙ ap (λ (m : Memory). (done_by k terminal s m now.may order).taken) (sym st.memory)
+    ∙ ap (λ (m : Memory). (done_by k terminal s m now.may order).taken) (sym st.memory)
 
 event-taken : (tick : ℕ) (c : Channel) (t : Option Taken) (o : Option orders.Taken) → taken_meant t ≡ o → TakenIs (event_told tick c t) tick c o
 event-taken tick c None o e = sym e
@@ -56,24 +56,24 @@ pub next-stands : (k : ℕ) (terminal : TerminalData) (loads : List TimedLoad) (
 next-stands k terminal loads before common memory past now s order performed b may n tick state event st is plan kept hear here may_is after_now does newer state_is event_is =
     let o : Obeyed = done_by k terminal s before.memory now.may order in
     let same : done_by k common.plan s common.memory may order ≡ o =
-      ap (λ (p : TerminalData). done_by k p s common.memory may order) (plan ∙ st.plan)
-        ∙ ap (λ (m : Memory). done_by k terminal s m may order) kept
-        ∙ ap (λ (b : Bool). done_by k terminal s before.memory b order) (sym may_is) in
+    ap (λ (p : TerminalData). done_by k p s common.memory may order) (plan ∙ st.plan)
+    ∙ ap (λ (m : Memory). done_by k terminal s m may order) kept
+    ∙ ap (λ (b : Bool). done_by k terminal s before.memory b order) (sym may_is) in
     let done : PerformedIs performed memory s order o = subst (λ (x : Obeyed). PerformedIs performed memory s order x) same does in
     let left : Standing = marked_by k terminal now past s (after_order s order o) in
     let heard : EarsStand k terminal.address common.ears (now ∷ past) left = hear (after_order s order o) in
     let on : TerminalState = stands_told (record { plan = before.plan; memory = memory; ears = common.ears }) b n performed.channel performed.end performed.part performed.done.duty in
     let state_on : state ≡ on =
-      state_is ∙ ap (λ (p : TerminalData). stands_told (record { plan = p; memory = memory; ears = common.ears }) b n performed.channel performed.end performed.part performed.done.duty) plan in
+    state_is ∙ ap (λ (p : TerminalData). stands_told (record { plan = p; memory = memory; ears = common.ears }) b n performed.channel performed.end performed.part performed.done.duty) plan in
     let stands : StateStands k terminal loads on (now ∷ past) left =
-      acted k terminal loads before memory common.ears past now s order performed b n st is (after_now ∙ ap suc here) done heard
-        (newer left heard (sym done.channel) (sym done.end)) in
+    acted k terminal loads before memory common.ears past now s order performed b n st is (after_now ∙ ap suc here) done heard
+    (newer left heard (sym done.channel) (sym done.end)) in
     let channel : performed.channel ≡ channel_of s (order_now k terminal (now ∷ past) s) =
-      done.channel ∙ order-channel s order o ∙ ap (channel_of s) (sym is) in
+    done.channel ∙ order-channel s order o ∙ ap (channel_of s) (sym is) in
     let told : TakenIs (event_told tick performed.channel performed.done.taken) tick performed.channel o.taken = event-taken tick performed.channel performed.done.taken o.taken done.done.taken in
     let told_here : TakenIs (event_told tick performed.channel performed.done.taken) (length past) (channel_of s (order_now k terminal (now ∷ past) s)) o.taken =
-      subst (λ (c : Channel). TakenIs (event_told tick performed.channel performed.done.taken) (length past) c o.taken) channel
-        (subst (λ (t : ℕ). TakenIs (event_told tick performed.channel performed.done.taken) t performed.channel o.taken) here told) in
+    subst (λ (c : Channel). TakenIs (event_told tick performed.channel performed.done.taken) (length past) c o.taken) channel
+    (subst (λ (t : ℕ). TakenIs (event_told tick performed.channel performed.done.taken) t performed.channel o.taken) here told) in
     record {
       state = subst (λ (left : Standing). StateStands k terminal loads state (now ∷ past) left) (sym (tick-is k terminal loads before past now s order st is))
           (subst (λ (t : TerminalState). StateStands k terminal loads t (now ∷ past) left) (sym state_on) stands);

@@ -91,11 +91,11 @@ owing-none k terminal loads state common past now s n heard newer st none plan m
     let sends : IsSending state.sends left = sends-same k terminal past now s state.sends st.sends in
     let old = kept-parts k terminal past s st.kept in
     let tick_heard : heard ≡ not (is_quiet (sample_on now.shown s.channel)) =
-      heard_is ∙ ap (λ (c : Channel). not (is_quiet (sample_on now.shown c))) (sym st.sends.channel) in
+    heard_is ∙ ap (λ (c : Channel). not (is_quiet (sample_on now.shown c))) (sym st.sends.channel) in
     let late : s.end ≤ length (heard_on s.channel past) = omega (arith, length-heard s.channel past, st.common.ended) in
     let early : nat_lt (length (heard_on s.channel past)) due ≡ true = lt-ltb (length (heard_on s.channel past)) due (omega (arith, length-heard s.channel past, st.early)) in
     let within : heard_within (heard_on s.channel (now ∷ past)) s.end due ≡ heard =
-      within-more (sample_on now.shown s.channel) (heard_on s.channel past) s.end due late
-        ∙ (rw (early, old.1) (last (not (is_quiet (sample_on now.shown s.channel))))) ∙ sym tick_heard in
+    within-more (sample_on now.shown s.channel) (heard_on s.channel past) s.end due late
+    ∙ (rw (early, old.1) (last (not (is_quiet (sample_on now.shown s.channel))))) ∙ sym tick_heard in
     none-next k terminal loads (owing_on common n state.sends heard newer) past now s none
-      (owing-left k terminal loads common n (now ∷ past) left state.sends heard newer same here sends within newer_is (omega (arith, st.early)))
+    (owing-left k terminal loads common n (now ∷ past) left state.sends heard newer same here sends within newer_is (omega (arith, st.early)))

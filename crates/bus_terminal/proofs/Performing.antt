@@ -27,11 +27,11 @@ performed-obeys k terminal memory after s (settles end slots rest) may c command
 performed-obeys k terminal memory after s runs_out may c command burst done is d = absurd is
 performed-obeys k terminal memory after s (obeys channel end order rest) may c command burst done is d =
     let same : obey terminal memory c command burst.slots.items burst.rest may ≡ obey terminal memory channel order.command order.tail rest may =
-      ap (λ (x : Channel). obey terminal memory x command burst.slots.items burst.rest may) is.channel_is
-        ∙ ap (λ (x : ℕ). obey terminal memory channel x burst.slots.items burst.rest may) is.command_is
-        ∙ ap (λ (x : List (Option Word)). obey terminal memory channel order.command x burst.rest may) is.slots_are
-        ∙ ap (λ (x : ℕ). obey terminal memory channel order.command (take MOST_SLOTS order.tail) x may) is.rest_is
-        ∙ obey-short terminal memory channel order.command 32 rest order.tail may (omega (arith, words-fit order.command)) in
+    ap (λ (x : Channel). obey terminal memory x command burst.slots.items burst.rest may) is.channel_is
+    ∙ ap (λ (x : ℕ). obey terminal memory channel x burst.slots.items burst.rest may) is.command_is
+    ∙ ap (λ (x : List (Option Word)). obey terminal memory channel order.command x burst.rest may) is.slots_are
+    ∙ ap (λ (x : ℕ). obey terminal memory channel order.command (take MOST_SLOTS order.tail) x may) is.rest_is
+    ∙ obey-short terminal memory channel order.command 32 rest order.tail may (omega (arith, words-fit order.command)) in
     record {
       done = subst (λ (o : Obeyed). IsDone done after o) same d;
       channel = is.channel_is;
@@ -53,11 +53,11 @@ performed-settles k terminal memory after s (settles end slots rest) may w burst
     let command : ℕ = w.promise.command in
     let transmitter : ℕ = w.promise.transmitter in
     let same : keep_promise terminal memory w.channel command transmitter burst.slots.items burst.rest ≡ kept_by k terminal memory s.channel s.duty slots rest =
-      ap (λ (x : Channel). keep_promise terminal memory x command transmitter burst.slots.items burst.rest) (sym is.waiting.channel)
-        ∙ ap (λ (x : List (Option Word)). keep_promise terminal memory s.channel command transmitter x burst.rest) is.slots_are
-        ∙ ap (λ (x : ℕ). keep_promise terminal memory s.channel command transmitter (take MOST_SLOTS slots) x) is.rest_is
-        ∙ promise-short terminal memory s.channel command transmitter 33 rest slots (omega (arith, count-fits command))
-        ∙ sym (kept-with k terminal memory s.channel s.duty command transmitter rest slots is.waiting.duty) in
+    ap (λ (x : Channel). keep_promise terminal memory x command transmitter burst.slots.items burst.rest) (sym is.waiting.channel)
+    ∙ ap (λ (x : List (Option Word)). keep_promise terminal memory s.channel command transmitter x burst.rest) is.slots_are
+    ∙ ap (λ (x : ℕ). keep_promise terminal memory s.channel command transmitter (take MOST_SLOTS slots) x) is.rest_is
+    ∙ promise-short terminal memory s.channel command transmitter 33 rest slots (omega (arith, count-fits command))
+    ∙ sym (kept-with k terminal memory s.channel s.duty command transmitter rest slots is.waiting.duty) in
     record {
       done = subst (λ (o : Obeyed). IsDone done after o) same d;
       channel = sym is.waiting.channel;

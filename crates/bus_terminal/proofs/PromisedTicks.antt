@@ -58,9 +58,9 @@ heard-since k terminal loads state past now s now_heard st is =
     let tick_heard : now_heard ≡ not (is_quiet (sample_on now.shown s.channel)) = is ∙ ap (λ (c : Channel). not (is_quiet (sample_on now.shown c))) (sym st.waiting.channel) in
     let test : nat_lt (length (heard_on s.channel past)) (suc (length past)) ≡ true = lt-ltb (length (heard_on s.channel past)) (suc (length past)) (omega (arith, length-heard s.channel past)) in
     let old : heard_within (heard_on s.channel past) s.end (suc (length past)) ≡ state.heard =
-      within-bound (heard_on s.channel past) s.end (suc (length past)) (length past) (omega (arith, length-heard s.channel past)) (omega (arith, length-heard s.channel past)) ∙ sym st.heard in
+    within-bound (heard_on s.channel past) s.end (suc (length past)) (length past) (omega (arith, length-heard s.channel past)) (omega (arith, length-heard s.channel past)) ∙ sym st.heard in
     within-more (sample_on now.shown s.channel) (heard_on s.channel past) s.end (suc (length past)) (omega (arith, length-heard s.channel past, st.common.ended))
-      ∙ (rw (test, old) (or-swap (not (is_quiet (sample_on now.shown s.channel))) state.heard)) ∙ ap (λ (b : Bool). state.heard || b) (sym tick_heard)
+    ∙ (rw (test, old) (or-swap (not (is_quiet (sample_on now.shown s.channel))) state.heard)) ∙ ap (λ (b : Bool). state.heard || b) (sym tick_heard)
 
 -- the promise runs out where the code says so
 same-channel-self : (c : Channel) → same_channel c c ≡ true
@@ -83,11 +83,11 @@ pub runs-out : (k : ℕ) (terminal : TerminalData) (loads : List TimedLoad) (sta
     AreHandled (if out then out_with (Some state.waiting) else None) (running_out k terminal (now ∷ past) s) s
 runs-out k terminal loads state past now s since out st heard is =
     let promise : promised_on k s s.channel ≡ true =
-      promised-with k state.waiting s s.channel (st.waiting, st.fresh) ∙ ap (λ (c : Channel). same_channel c s.channel) (sym st.waiting.channel) ∙ same-channel-self s.channel in
+    promised-with k state.waiting s s.channel (st.waiting, st.fresh) ∙ ap (λ (c : Channel). same_channel c s.channel) (sym st.waiting.channel) ∙ same-channel-self s.channel in
     let tick : (suc (length past) == suc (s.end + relay_wait)) ≡ (length past == (state.waiting.end + relay_wait)) =
-      suc-eq (length past) (s.end + relay_wait) ∙ ap (λ (e : ℕ). length past == (e + relay_wait)) st.waiting.end in
+    suc-eq (length past) (s.end + relay_wait) ∙ ap (λ (e : ℕ). length past == (e + relay_wait)) st.waiting.end in
     let test : (promised_on k s s.channel && (suc (length past) == suc (s.end + relay_wait)) && not (heard_within (heard_on s.channel (now ∷ past)) s.end (suc (length past)))) ≡ out =
-      rw (promise, tick, heard) (sym is) in
+    rw (promise, tick, heard) (sym is) in
     rw test (out-last state.waiting s out st.waiting)
 
 or-false : (a b : Bool) → (a || b) ≡ false → a ≡ false
@@ -113,12 +113,15 @@ pub promised-none : (k : ℕ) (terminal : TerminalData) (loads : List TimedLoad)
     NextStands k terminal loads (record { state = promised_on_told common state.waiting (state.heard || now_heard) newer; event = events.Nothing }) past now s
 promised-none k terminal loads state common past now s now_heard out newer st none plan memory hear heard_is out_is not_out newer_is =
     none-next k terminal loads (promised_on_told common state.waiting (state.heard || now_heard) newer) past now s none
-      (promised-left k terminal loads common (now ∷ past) (marked_by k terminal now past s s) state.waiting (state.heard || now_heard) newer
-        (common-kept k terminal loads state.common common past now s st.common plan memory hear)
-        (record { channel = st.waiting.channel; end = st.waiting.end; duty = st.waiting.duty }) (sym (heard-since k terminal loads state past now s now_heard st heard_is)) newer_is
-        (λ still. omega (arith, st.waiting.end,
-          not-yet (length past) (state.waiting.end + relay_wait) (state.heard || now_heard) out
-            (omega (arith, st.waiting.end, st.within (or-false state.heard now_heard still))) still out_is not_out)))
+    (promised-left k terminal loads common (now ∷ past) (marked_by k terminal now past s s) state.waiting (state.heard || now_heard) newer
+    (common-kept k terminal loads state.common common past now s st.common plan memory hear)
+    (record { channel = st.waiting.channel; end = st.waiting.end; duty = st.waiting.duty }) (sym (heard-since k terminal loads state past now s now_heard st heard_is)) newer_is
+    (λ still. omega (
+      arith,
+      st.waiting.end,
+      not-yet (length past) (state.waiting.end + relay_wait) (state.heard || now_heard) out
+          (omega (arith, st.waiting.end, st.within (or-false state.heard now_heard still))) still out_is not_out,
+    )))
 
 pub last-none : {X : Type 0} (a b : Option X) (x : X) (out : Bool) → option_or a (option_or b (if out then Some x else None)) ≡ None → out ≡ false
 last-none a b x false e = refl

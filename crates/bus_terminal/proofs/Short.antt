@@ -38,9 +38,9 @@ relayed-short : (terminal : TerminalData) (memory : Memory) (c : Channel) (count
 relayed-short terminal memory c count transmitter m rest [] h = refl
 relayed-short terminal memory c count transmitter m zero (slot ∷ slots) h =
     from (command_in slot) where
-  from : (status : Option ℕ) → data_from terminal memory c count transmitter status (take m slots) ≡ data_from terminal memory c count transmitter status slots
-  from None = refl
-  from (Some status) = rw (data-short count m slots h) refl
+      from : (status : Option ℕ) → data_from terminal memory c count transmitter status (take m slots) ≡ data_from terminal memory c count transmitter status slots
+      from None = refl
+      from (Some status) = rw (data-short count m slots h) refl
 relayed-short terminal memory c count transmitter m (suc rest) (slot ∷ slots) h = refl
 
 pub promise-short : (terminal : TerminalData) (memory : Memory) (c : Channel) (command transmitter m rest : ℕ) (slots : List (Option Word)) → word_count command < m →

@@ -41,7 +41,7 @@ rests-silent k terminal past s free h = refl
 rests-silent k terminal past s (promises command transmitter) h = refl
 rests-silent k terminal past s (owes words acceptance) h =
     silent-if ((nat_lt (length (heard_on s.channel past)) (due_after terminal s.end) || given_up k terminal (heard_on s.channel past) s) || is_over k terminal (heard_on s.channel past) s) _
-      (last-true (nat_lt (length (heard_on s.channel past)) (due_after terminal s.end)) (given_up k terminal (heard_on s.channel past) s) (is_over k terminal (heard_on s.channel past) s) h)
+    (last-true (nat_lt (length (heard_on s.channel past)) (due_after terminal s.end)) (given_up k terminal (heard_on s.channel past) s) (is_over k terminal (heard_on s.channel past) s) h)
 
 drives-if : (b : Bool) (x : Drive) → b ≡ false → x ≡ (if b then Silent else x)
 drives-if true x h = cc
@@ -60,18 +60,18 @@ state-drives k terminal loads (states.Listening state) past s st = rests-silent 
 state-drives k terminal loads (states.Promised state) past s st = ap (drive_duty k terminal (heard_on s.channel past) s) (sym st.waiting.duty)
 state-drives k terminal loads (states.Owing state) past s st =
     silent-if ((nat_lt (length (heard_on s.channel past)) (due_after terminal s.end) || given_up k terminal (heard_on s.channel past) s) || is_over k terminal (heard_on s.channel past) s)
-      (drive_sample s.channel s.part state.sends.answer.words.items (length (heard_on s.channel past) - due_after terminal s.end))
-      (first-true (nat_lt (length (heard_on s.channel past)) (due_after terminal s.end)) (given_up k terminal (heard_on s.channel past) s) (is_over k terminal (heard_on s.channel past) s)
-        (lt-ltb (length (heard_on s.channel past)) (due_after terminal s.end) (omega (arith, length-heard s.channel past, st.early))))
-      ∙ ap (drive_duty k terminal (heard_on s.channel past) s) (sym st.sends.duty)
+    (drive_sample s.channel s.part state.sends.answer.words.items (length (heard_on s.channel past) - due_after terminal s.end))
+    (first-true (nat_lt (length (heard_on s.channel past)) (due_after terminal s.end)) (given_up k terminal (heard_on s.channel past) s) (is_over k terminal (heard_on s.channel past) s)
+    (lt-ltb (length (heard_on s.channel past)) (due_after terminal s.end) (omega (arith, length-heard s.channel past, st.early))))
+    ∙ ap (drive_duty k terminal (heard_on s.channel past) s) (sym st.sends.duty)
 state-drives k terminal loads (states.Answering state) past s st =
     let words : List Word = state.sends.answer.words.items in
     let place : state.sent ≡ length (heard_on s.channel past) - due_after terminal s.end = omega (arith, length-heard s.channel past, st.sent) in
     ap (λ (c : Channel). drive_sample c state.sends.part words state.sent) (sym st.sends.channel)
-      ∙ ap (λ (p : Part). drive_sample s.channel p words state.sent) (sym st.sends.part)
-      ∙ ap (drive_sample s.channel s.part words) place
-      ∙ drives-if ((nat_lt (length (heard_on s.channel past)) (due_after terminal s.end) || given_up k terminal (heard_on s.channel past) s) || is_over k terminal (heard_on s.channel past) s)
-        (drive_sample s.channel s.part words (length (heard_on s.channel past) - due_after terminal s.end))
-        (none-true (nat_lt (length (heard_on s.channel past)) (due_after terminal s.end)) (given_up k terminal (heard_on s.channel past) s) (is_over k terminal (heard_on s.channel past) s)
-          (le-ltb (length (heard_on s.channel past)) (due_after terminal s.end) (omega (arith, length-heard s.channel past, st.sent))) st.kept st.runs)
-      ∙ ap (drive_duty k terminal (heard_on s.channel past) s) (sym st.sends.duty)
+    ∙ ap (λ (p : Part). drive_sample s.channel p words state.sent) (sym st.sends.part)
+    ∙ ap (drive_sample s.channel s.part words) place
+    ∙ drives-if ((nat_lt (length (heard_on s.channel past)) (due_after terminal s.end) || given_up k terminal (heard_on s.channel past) s) || is_over k terminal (heard_on s.channel past) s)
+    (drive_sample s.channel s.part words (length (heard_on s.channel past) - due_after terminal s.end))
+    (none-true (nat_lt (length (heard_on s.channel past)) (due_after terminal s.end)) (given_up k terminal (heard_on s.channel past) s) (is_over k terminal (heard_on s.channel past) s)
+    (le-ltb (length (heard_on s.channel past)) (due_after terminal s.end) (omega (arith, length-heard s.channel past, st.sent))) st.kept st.runs)
+    ∙ ap (drive_duty k terminal (heard_on s.channel past) s) (sym st.sends.duty)

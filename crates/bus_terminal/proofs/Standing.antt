@@ -53,20 +53,20 @@ owes-stands k terminal loads common n past s sends st here is kept early =
     let owing : TerminalState = states.Owing record { common = common; sends = sends } in
     let answering : TerminalState = states.Answering record { common = common; sends = sends; sent = 0 } in
     let test : nat_lt n (due_after common.plan sends.end) ≡ nat_lt (length past) (due_after terminal s.end) =
-      ap (λ (x : ℕ). nat_lt x (due_after common.plan sends.end)) here
-        ∙ ap (λ (p : TerminalData). nat_lt (length past) (due_after p sends.end)) st.plan
-        ∙ ap (λ (e : ℕ). nat_lt (length past) (due_after terminal e)) (sym is.end) in
+    ap (λ (x : ℕ). nat_lt x (due_after common.plan sends.end)) here
+    ∙ ap (λ (p : TerminalData). nat_lt (length past) (due_after p sends.end)) st.plan
+    ∙ ap (λ (e : ℕ). nat_lt (length past) (due_after terminal e)) (sym is.end) in
     subst (λ (b : Bool). StateStands k terminal loads (if b then owing else answering) past s) (sym test)
-      (by-test (λ (t : TerminalState). StateStands k terminal loads t past s) (nat_lt (length past) (due_after terminal s.end)) owing answering
-        (λ less. record { common = st; sends = is; kept = kept; early = ltb-true (length past) (due_after terminal s.end) less })
-        (λ all. record {
-          common = st;
-          sends = is;
-          kept = kept;
-          runs = ap is_some (end_since-early k (heard_on s.channel past) (due_after terminal s.end) (omega (arith, length-heard s.channel past, early)));
-          sent = omega (arith, early, ltb-false (length past) (due_after terminal s.end) all);
-          marked = λ some. absurd (omega (arith, some));
-        }))
+    (by-test (λ (t : TerminalState). StateStands k terminal loads t past s) (nat_lt (length past) (due_after terminal s.end)) owing answering
+    (λ less. record { common = st; sends = is; kept = kept; early = ltb-true (length past) (due_after terminal s.end) less })
+    (λ all. record {
+      common = st;
+      sends = is;
+      kept = kept;
+      runs = ap is_some (end_since-early k (heard_on s.channel past) (due_after terminal s.end) (omega (arith, length-heard s.channel past, early)));
+      sent = omega (arith, early, ltb-false (length past) (due_after terminal s.end) all);
+      marked = λ some. absurd (omega (arith, some));
+    }))
 
 pub duty-stands : (k : ℕ) (terminal : TerminalData) (loads : List TimedLoad) (common : Common) (n : ℕ) (past : List Moment) (s : Standing) (c : Channel) (end : ℕ) (part : Part) (d : Duty) →
     CommonStands k terminal loads common past s → n ≡ length past → s.channel ≡ c → s.end ≡ end → (is_owed s.duty ≡ true → s.part ≡ part) →
@@ -88,8 +88,8 @@ duty-stands k terminal loads common n past s c end part (duties.Owes answer) st 
     let sends : Sends = record { channel = c; end = end; part = part; answer = answer } in
     let owed : is_owed s.duty ≡ true = ap is_owed (sym is) in
     owes-stands k terminal loads common n past s sends st here (record { channel = on; end = at; part = shape owed; duty = sym is })
-      (kept-when k terminal past s fresh (quiet-since k past s (due_after terminal s.end) now still))
-      (omega (arith, now, st.fits.prompt))
+    (kept-when k terminal past s fresh (quiet-since k past s (due_after terminal s.end) now still))
+    (omega (arith, now, st.fits.prompt))
 
 pub rests-superseded : (k : ℕ) (terminal : TerminalData) (past : List Moment) (s : Standing) (d : orders.Duty) → superseded k s ≡ true → rests k terminal past s d ≡ true
 rests-superseded k terminal past s free h = refl

@@ -105,11 +105,11 @@ pub superseded-stays : (k own : ℕ) (terminal : TerminalData) (ears : Ears) (no
 superseded-stays k own terminal ears now past s st h =
     let c : Channel = other_of s.channel in
     ap (is_from (s.end + k)) (mark-of k terminal now past s (other_of s.channel))
-      ∙ by-test (λ (o : Option ℕ). is_from (s.end + k) o ≡ true)
-        (is_addressed terminal.address (slot_now k (heard_on (other_of s.channel) (now ∷ past))) && not (ignored_from k (heard_on (other_of s.channel) past) (mark_on s.sent (other_of s.channel))))
-        (Some (length past)) (mark_on s.addressed (other_of s.channel))
-        (λ _. from-below (s.end + k) (length past) (mark_on s.addressed (other_of s.channel)) (mark-before k own ears past s (other_of s.channel) st) h)
-        (λ _. h)
+    ∙ by-test (λ (o : Option ℕ). is_from (s.end + k) o ≡ true)
+    (is_addressed terminal.address (slot_now k (heard_on (other_of s.channel) (now ∷ past))) && not (ignored_from k (heard_on (other_of s.channel) past) (mark_on s.sent (other_of s.channel))))
+    (Some (length past)) (mark_on s.addressed (other_of s.channel))
+    (λ _. from-below (s.end + k) (length past) (mark_on s.addressed (other_of s.channel)) (mark-before k own ears past s (other_of s.channel) st) h)
+    (λ _. h)
 
 -- ---- what counts no more stays so
 
@@ -134,13 +134,13 @@ rests-stays k own terminal ears now past s (promises command transmitter) st h =
 rests-stays k own terminal ears now past s (owes words acceptance) st h =
     let due : ℕ = due_after terminal s.end in
     three-true (superseded k (marked_by k terminal now past s s)) (heard_within (heard_on s.channel (now ∷ past)) s.end due) (is_some (end_since k (heard_on s.channel (now ∷ past)) due))
-      (elim (or-cases (superseded k s || heard_within (heard_on s.channel past) s.end due) (is_some (end_since k (heard_on s.channel past) due)) h) [
-        | inl up ↦ elim (or-cases (superseded k s) (heard_within (heard_on s.channel past) s.end due) up) [
-          | inl newer ↦ inl (inl (superseded-stays k own terminal ears now past s st newer))
-          | inr heard ↦ inl (inr (within-stays _ (heard_on s.channel past) s.end due heard))
-        ]
-        | inr over ↦ inr (over-stays k due _ (heard_on s.channel past) (end_since k (heard_on s.channel past) due) refl over)
-      ])
+    (elim (or-cases (superseded k s || heard_within (heard_on s.channel past) s.end due) (is_some (end_since k (heard_on s.channel past) due)) h) [
+      | inl up ↦ elim (or-cases (superseded k s) (heard_within (heard_on s.channel past) s.end due) up) [
+        | inl newer ↦ inl (inl (superseded-stays k own terminal ears now past s st newer))
+        | inr heard ↦ inl (inr (within-stays _ (heard_on s.channel past) s.end due heard))
+      ]
+      | inr over ↦ inr (over-stays k due _ (heard_on s.channel past) (end_since k (heard_on s.channel past) due) refl over)
+    ])
 
 -- ---- a state that owes nothing
 
@@ -156,13 +156,14 @@ rests-begin k terminal past s (owes words acceptance) h =
     elim (or-cases (given_up k terminal (heard_on s.channel past) s) (is_over k terminal (heard_on s.channel past) s) h) [
       | inl up ↦ none-last (length past == due_after terminal s.end) (given_up k terminal (heard_on s.channel past) s) up
       | inr over ↦ none-first (length past == due_after terminal s.end) (not (given_up k terminal (heard_on s.channel past) s))
-        (over-late k (due_after terminal s.end) (length past) (heard_on s.channel past) (end_since k (heard_on s.channel past) (due_after terminal s.end)) (length-heard s.channel past) refl over)
+          (over-late k (due_after terminal s.end) (length past) (heard_on s.channel past) (end_since k (heard_on s.channel past) (due_after terminal s.end)) (length-heard s.channel past) refl over)
     ] where
-  none-last : (b u : Bool) → u ≡ true → (b && not u) ≡ false
-  none-last true u h = rw h refl
-  none-last false u h = refl
-  none-first : (b u : Bool) → b ≡ false → (b && u) ≡ false
-  none-first b u h = rw h refl
+      none-last : (b u : Bool) → u ≡ true → (b && not u) ≡ false
+      none-last true u h = rw h refl
+      none-last false u h = refl
+
+      none-first : (b u : Bool) → b ≡ false → (b && u) ≡ false
+      none-first b u h = rw h refl
 
 and-false : (b c : Bool) → b ≡ false → false ≡ (b && c)
 and-false b c h = rw h refl

@@ -39,8 +39,8 @@ pub woken-stands : (k : ℕ) (terminal : TerminalData) (loads : List TimedLoad) 
 woken-stands k terminal loads (states.Listening state) common past s kept n st rested made is =
     let same : state.common.memory ≡ kept = rested.1 ∙ is in
     let has : with_loads terminal.address (length (quiet_moments n)) loads common.memory ≡ common.memory =
-      ap (λ (m : ℕ). with_loads terminal.address m loads common.memory) (quiet-length n)
-        ∙ loads-alike terminal.address n (length past) loads common.memory made st.made ∙ st.absorbed in
+    ap (λ (m : ℕ). with_loads terminal.address m loads common.memory) (quiet-length n)
+    ∙ loads-alike terminal.address n (length past) loads common.memory made st.made ∙ st.absorbed in
     record {
       common = record {
         plan = rested.0 ∙ st.plan;

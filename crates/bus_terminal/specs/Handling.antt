@@ -51,7 +51,7 @@ out_with (Some w) = Some (told.RunsOut w)
 abbrev pub handled_told : Listened → Option Waiting → Bool → Option Handled
 handled_told heard waiting out =
     option_or (order_told A heard.a heard.a_outrun waiting)
-      (option_or (order_told B heard.b heard.b_outrun waiting) (if out then out_with waiting else None))
+    (option_or (order_told B heard.b heard.b_outrun waiting) (if out then out_with waiting else None))
 
 -- the end of what is handled
 abbrev pub EndFits : Handled → Type 0

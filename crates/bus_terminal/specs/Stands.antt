@@ -99,7 +99,7 @@ abbrev pub TakenIs : TerminalEvent → ℕ → Channel → Option Taken → Type
 TakenIs events.Nothing tick c taken = taken ≡ None
 TakenIs (events.Took delivery) tick c taken =
     (delivery.tick.0 ≡ tick) × (delivery.channel ≡ c)
-      × (taken ≡ Some record { sub = delivery.sub; broadcast = delivery.broadcast; words = delivery.words })
+    × (taken ≡ Some record { sub = delivery.sub; broadcast = delivery.broadcast; words = delivery.words })
 TakenIs events.Accepted tick c taken = taken ≡ None
 
 -- the channel on which something is handled
@@ -118,5 +118,5 @@ pub record NextStands (k : ℕ) (terminal : TerminalData) (loads : List TimedLoa
 abbrev pub RestsFrom : ℕ → TerminalState → Common → Type 0
 RestsFrom k (states.Listening state) common =
     (state.common.plan ≡ common.plan) × (state.common.memory ≡ common.memory)
-      × ((own n : ℕ) (memory : Memory) → EarsStand k own state.common.ears (quiet_moments n) (at_rest memory))
+    × ((own n : ℕ) (memory : Memory) → EarsStand k own state.common.ears (quiet_moments n) (at_rest memory))
 RestsFrom k _ common = ⊥

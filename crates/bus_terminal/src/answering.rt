@@ -31,14 +31,10 @@ impl Answering {
     /// Hears what both channels show in the tick `now`, the number of the ticks heard before. `may_accept` says that the terminal's station
     /// has items left.
     pub fn hear(self, now: Tick, heard: Pair, may_accept: bool) -> TerminalNext
-        requires {
-            (terminal : TerminalData) × (loads : List TimedLoad) × (past : List Moment) × (s : Standing) × AnsweringStands LAG terminal loads self past s
-                × (length past ≡ now.0) × (now.0 < 2 ^ 60)
-        }
-        ensures {
-            (terminal : TerminalData) (loads : List TimedLoad) (past : List Moment) (s : Standing) → AnsweringStands LAG terminal loads self past s →
-                length past ≡ now.0 → NextStands LAG terminal loads result past (record { shown = heard; may = may_accept }) s
-        }
+        requires { (terminal : TerminalData) × (loads : List TimedLoad) × (past : List Moment) × (s : Standing) × AnsweringStands LAG terminal loads self past s
+            × (length past ≡ now.0) × (now.0 < 2 ^ 60) }
+        ensures { (terminal : TerminalData) (loads : List TimedLoad) (past : List Moment) (s : Standing) → AnsweringStands LAG terminal loads self past s →
+            length past ≡ now.0 → NextStands LAG terminal loads result past (record { shown = heard; may = may_accept }) s }
     {
         let mut common = self.common;
         let sends = self.sends;
@@ -63,7 +59,12 @@ impl Answering {
     pub(crate) fn drive(&self) -> Drive
         ensures { result ≡ drive_sample self.now.sends.channel self.now.sends.part self.now.sends.answer.words.items self.now.sent }
     {
-        drive_sample(self.sends.channel, self.sends.part, self.sends.answer.words.as_slice(), self.sent)
+        drive_sample(
+            self.sends.channel,
+            self.sends.part,
+            self.sends.answer.words.as_slice(),
+            self.sent,
+        )
     }
 }
 
@@ -121,7 +122,9 @@ fn accepts(sends: &Sends, listened: &Listened, due: u64) -> bool {
         Channel::B => &listened.b.burst,
     };
     match burst {
-        Some(burst) => sends.answer.acceptance && burst.first == due && burst.end >= due.saturating_add(40),
+        Some(burst) => sends.answer.acceptance
+            && burst.first == due
+            && burst.end >= due.saturating_add(40),
         None => false,
     }
 }

@@ -47,22 +47,28 @@ pub struct Listened {
 
 impl Ears {
     /// Hears both channels in tick `now`, for the terminal with the address `own`, whose own transmission begins on a channel, or on none.
-    pub(crate) fn listen(&mut self, own: u8, now: u64, heard: Pair, begins: Option<Channel>) -> Listened
+    pub(crate) fn listen(
+        &mut self,
+        own: u8,
+        now: u64,
+        heard: Pair,
+        begins: Option<Channel>,
+    ) -> Listened
         requires { (past : List Moment) × (s : spec.Standing) × EarsStand LAG own self.old past s × (length past ≡ now) × (now < 2 ^ 60) }
-        ensures stands {
-            (terminal : TerminalData) (past : List Moment) (s after : spec.Standing) (moment : Moment) → terminal.address ≡ own →
-                EarsStand LAG own self.old past s → length past ≡ now → moment.shown ≡ heard → Listens LAG terminal begins past s →
-                EarsStand LAG own self.new (moment ∷ past) (marked_by LAG terminal moment past s after)
-        }
-        ensures tells {
-            (past : List Moment) (s : spec.Standing) (moment : Moment) → EarsStand LAG own self.old past s → length past ≡ now → moment.shown ≡ heard →
-                AreListened LAG own result (moment ∷ past) past s
-        }
+        ensures stands { (terminal : TerminalData) (past : List Moment) (s after : spec.Standing) (moment : Moment) → terminal.address ≡ own →
+            EarsStand LAG own self.old past s → length past ≡ now → moment.shown ≡ heard → Listens LAG terminal begins past s →
+            EarsStand LAG own self.new (moment ∷ past) (marked_by LAG terminal moment past s after) }
+        ensures tells { (past : List Moment) (s : spec.Standing) (moment : Moment) → EarsStand LAG own self.old past s → length past ≡ now → moment.shown ≡ heard →
+            AreListened LAG own result (moment ∷ past) past s }
     {
         let a_outrun = is_newer(Channel::B, self.b.addressed(), self.a.addressed());
         let b_outrun = is_newer(Channel::A, self.a.addressed(), self.b.addressed());
-        let a = self.a.hear(own, now, heard.a, begins_on(begins, Channel::A));
-        let b = self.b.hear(own, now, heard.b, begins_on(begins, Channel::B));
+        let a = self
+            .a
+            .hear(own, now, heard.a, begins_on(begins, Channel::A));
+        let b = self
+            .b
+            .hear(own, now, heard.b, begins_on(begins, Channel::B));
         Listened {
             a,
             b,
@@ -74,10 +80,8 @@ impl Ears {
     /// Whether a valid command came on the other channel after an order was handled whose burst ended at `end`.
     pub(crate) fn supersede(&self, channel: Channel, end: u64) -> bool
         requires { end < 2 ^ 60 }
-        ensures {
-            (own : ℕ) (past : List Moment) (s : spec.Standing) → EarsStand LAG own self.now past s →
-                s.channel ≡ channel → s.end ≡ end → result ≡ spec.superseded LAG s
-        }
+        ensures { (own : ℕ) (past : List Moment) (s : spec.Standing) → EarsStand LAG own self.now past s →
+            s.channel ≡ channel → s.end ≡ end → result ≡ spec.superseded LAG s }
     {
         let other = match channel {
             Channel::A => &self.b,
@@ -88,10 +92,8 @@ impl Ears {
 
     /// Whether a channel is ignored in the next tick.
     pub(crate) fn ignore(&self, channel: Channel) -> bool
-        ensures {
-            (own : ℕ) (past : List Moment) (s : spec.Standing) → EarsStand LAG own self.now past s →
-                result ≡ spec.ignored_from LAG (heard_on channel past) (spec.mark_on s.sent channel)
-        }
+        ensures { (own : ℕ) (past : List Moment) (s : spec.Standing) → EarsStand LAG own self.now past s →
+            result ≡ spec.ignored_from LAG (heard_on channel past) (spec.mark_on s.sent channel) }
     {
         match channel {
             Channel::A => self.a.is_ignored(),
@@ -133,22 +135,16 @@ fn is_newer(other: Channel, theirs: Option<u64>, own: Option<u64>) -> bool
 impl Common {
     /// Hears both channels in tick `now`. The terminal's own transmission begins on a channel, or on none.
     pub(crate) fn listen(&mut self, now: u64, heard: Pair, begins: Option<Channel>) -> Listened
-        requires {
-            (terminal : TerminalData) × (loads : List TimedLoad) × (past : List Moment) × (s : spec.Standing) × CommonStands LAG terminal loads self.old past s
-                × (length past ≡ now) × (now < 2 ^ 60)
-        }
+        requires { (terminal : TerminalData) × (loads : List TimedLoad) × (past : List Moment) × (s : spec.Standing) × CommonStands LAG terminal loads self.old past s
+            × (length past ≡ now) × (now < 2 ^ 60) }
         ensures plan { self.new.plan ≡ self.old.plan }
         ensures memory { self.new.memory ≡ self.old.memory }
-        ensures stands {
-            (terminal : TerminalData) (loads : List TimedLoad) (past : List Moment) (s after : spec.Standing) (moment : Moment) →
-                CommonStands LAG terminal loads self.old past s → length past ≡ now → moment.shown ≡ heard → Listens LAG terminal begins past s →
-                EarsStand LAG terminal.address self.new.ears (moment ∷ past) (marked_by LAG terminal moment past s after)
-        }
-        ensures tells {
-            (terminal : TerminalData) (loads : List TimedLoad) (past : List Moment) (s : spec.Standing) (moment : Moment) →
-                CommonStands LAG terminal loads self.old past s → length past ≡ now → moment.shown ≡ heard →
-                AreListened LAG terminal.address result (moment ∷ past) past s
-        }
+        ensures stands { (terminal : TerminalData) (loads : List TimedLoad) (past : List Moment) (s after : spec.Standing) (moment : Moment) →
+            CommonStands LAG terminal loads self.old past s → length past ≡ now → moment.shown ≡ heard → Listens LAG terminal begins past s →
+            EarsStand LAG terminal.address self.new.ears (moment ∷ past) (marked_by LAG terminal moment past s after) }
+        ensures tells { (terminal : TerminalData) (loads : List TimedLoad) (past : List Moment) (s : spec.Standing) (moment : Moment) →
+            CommonStands LAG terminal loads self.old past s → length past ≡ now → moment.shown ≡ heard →
+            AreListened LAG terminal.address result (moment ∷ past) past s }
     {
         let own = own_address(&self.plan);
         self.ears.listen(own, now, heard, begins)
@@ -174,9 +170,7 @@ pub(crate) fn is_heard(heard: Pair, channel: Channel) -> bool
 impl Ears {
     /// Ears that heard quiet ticks alone.
     pub(crate) fn new() -> Ears
-        ensures {
-            (own n : ℕ) (memory : Kept) → EarsStand LAG own result (quiet_moments n) (spec.at_rest memory)
-        }
+        ensures { (own n : ℕ) (memory : Kept) → EarsStand LAG own result (quiet_moments n) (spec.at_rest memory) }
     {
         Ears {
             a: Ear::new(),

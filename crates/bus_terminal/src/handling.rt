@@ -52,10 +52,19 @@ pub(crate) fn found(listened: Listened, waiting: Option<Waiting>, runs_out: bool
     if let Some(order) = order_on(Channel::B, listened.b, listened.b_outrun, waiting) {
         return Some(order);
     }
-    if runs_out { Some(Handled::RunsOut(waiting?)) } else { None }
+    if runs_out {
+        Some(Handled::RunsOut(waiting?))
+    } else {
+        None
+    }
 }
 
-fn order_on(channel: Channel, heard: Heard, outrun: bool, waiting: Option<Waiting>) -> Option<Handled>
+fn order_on(
+    channel: Channel,
+    heard: Heard,
+    outrun: bool,
+    waiting: Option<Waiting>,
+) -> Option<Handled>
     requires { spec.WaitFits waiting }
     ensures { result ≡ spec.order_told channel heard outrun waiting }
 {
@@ -87,18 +96,29 @@ fn settles(channel: Channel, waiting: Waiting, burst: HeardBurst) -> Option<Hand
 }
 
 /// Does what is handled.
-pub(crate) fn perform(terminal: &TerminalPlan, memory: &mut Memory, handled: Handled, may_accept: bool) -> Performed
+pub(crate) fn perform(
+    terminal: &TerminalPlan,
+    memory: &mut Memory,
+    handled: Handled,
+    may_accept: bool,
+) -> Performed
     requires address { terminal.now.address ≤ 31 }
     requires end { spec.EndFits handled }
     ensures fits { result.end < 2 ^ 60 }
-    ensures does {
-        (s : Standing) (order : Order) → spec.HandledIs handled order s →
-            spec.PerformedIs result memory.new s order (done_by LAG terminal.now s memory.old may_accept order)
-    }
+    ensures does { (s : Standing) (order : Order) → spec.HandledIs handled order s →
+        spec.PerformedIs result memory.new s order (done_by LAG terminal.now s memory.old may_accept order) }
 {
     match handled {
         Handled::Obeys(channel, command, burst) => {
-            let done = obey(terminal, memory, channel, command, burst.slots.as_slice(), burst.rest, may_accept);
+            let done = obey(
+                terminal,
+                memory,
+                channel,
+                command,
+                burst.slots.as_slice(),
+                burst.rest,
+                may_accept,
+            );
             Performed {
                 channel,
                 end: burst.end,
@@ -107,7 +127,14 @@ pub(crate) fn perform(terminal: &TerminalPlan, memory: &mut Memory, handled: Han
             }
         }
         Handled::Settles(waiting, burst) => {
-            let done = keep_promise(terminal, memory, waiting.channel, waiting.promise, burst.slots.as_slice(), burst.rest);
+            let done = keep_promise(
+                terminal,
+                memory,
+                waiting.channel,
+                waiting.promise,
+                burst.slots.as_slice(),
+                burst.rest,
+            );
             Performed {
                 channel: waiting.channel,
                 end: burst.end,

@@ -25,14 +25,10 @@ impl Owing {
     /// Hears what both channels show in the tick `now`, the number of the ticks heard before. `may_accept` says that the terminal's station
     /// has items left.
     pub fn hear(self, now: Tick, heard: Pair, may_accept: bool) -> TerminalNext
-        requires {
-            (terminal : TerminalData) × (loads : List TimedLoad) × (past : List Moment) × (s : Standing) × OwingStands LAG terminal loads self past s
-                × (length past ≡ now.0) × (now.0 < 2 ^ 60)
-        }
-        ensures {
-            (terminal : TerminalData) (loads : List TimedLoad) (past : List Moment) (s : Standing) → OwingStands LAG terminal loads self past s →
-                length past ≡ now.0 → NextStands LAG terminal loads result past (record { shown = heard; may = may_accept }) s
-        }
+        requires { (terminal : TerminalData) × (loads : List TimedLoad) × (past : List Moment) × (s : Standing) × OwingStands LAG terminal loads self past s
+            × (length past ≡ now.0) × (now.0 < 2 ^ 60) }
+        ensures { (terminal : TerminalData) (loads : List TimedLoad) (past : List Moment) (s : Standing) → OwingStands LAG terminal loads self past s →
+            length past ≡ now.0 → NextStands LAG terminal loads result past (record { shown = heard; may = may_accept }) s }
     {
         let mut common = self.common;
         let sends = self.sends;

@@ -63,7 +63,12 @@ pub(crate) fn due(plan: &TerminalPlan, end: u64) -> u64
 }
 
 /// The state that an order leaves, where `next` is the tick to come.
-pub(crate) fn stand(common: Common, superseded: bool, next: u64, performed: Performed) -> TerminalState
+pub(crate) fn stand(
+    common: Common,
+    superseded: bool,
+    next: u64,
+    performed: Performed,
+) -> TerminalState
     requires { performed.end < 2 ^ 60 }
     ensures { result ≡ spec.stands_told common superseded next performed.channel performed.end performed.part performed.done.duty }
 {
@@ -139,13 +144,11 @@ pub(crate) fn act(common: Common, now: u64, handled: Handled, may_accept: bool) 
     requires address { common.plan.address ≤ 31 }
     requires now { now < 2 ^ 60 }
     requires end { handling.EndFits handled }
-    ensures {
-        (terminal : TerminalData) (loads : List TimedLoad) (before : CommonData) (past : List Moment) (moment : Moment) (s : Standing) (order : Order) →
-            stands.CommonStands LAG terminal loads before past s → order_now LAG terminal (moment ∷ past) s ≡ Some order →
-            handling.HandledIs handled order s → common.plan ≡ before.plan → common.memory ≡ before.memory →
-            ((after : Standing) → EarsStand LAG terminal.address common.ears (moment ∷ past) (marked_by LAG terminal moment past s after)) →
-            now ≡ length past → moment.may ≡ may_accept → stands.NextStands LAG terminal loads result past moment s
-    }
+    ensures { (terminal : TerminalData) (loads : List TimedLoad) (before : CommonData) (past : List Moment) (moment : Moment) (s : Standing) (order : Order) →
+        stands.CommonStands LAG terminal loads before past s → order_now LAG terminal (moment ∷ past) s ≡ Some order →
+        handling.HandledIs handled order s → common.plan ≡ before.plan → common.memory ≡ before.memory →
+        ((after : Standing) → EarsStand LAG terminal.address common.ears (moment ∷ past) (marked_by LAG terminal moment past s after)) →
+        now ≡ length past → moment.may ≡ may_accept → stands.NextStands LAG terminal loads result past moment s }
 {
     let mut common = common;
     let mut performed = perform(&common.plan, &mut common.memory, handled, may_accept);
@@ -161,14 +164,10 @@ impl TerminalState {
     /// Hears what both channels show in the tick `now`, the number of the ticks heard before. `may_accept` says that the terminal's station
     /// has items left.
     pub fn hear(self, now: Tick, heard: Pair, may_accept: bool) -> TerminalNext
-        requires {
-            (terminal : TerminalData) × (loads : List TimedLoad) × (past : List Moment) × (s : Standing) × stands.StateStands LAG terminal loads self past s
-                × (length past ≡ now.0) × (now.0 < 2 ^ 60)
-        }
-        ensures {
-            (terminal : TerminalData) (loads : List TimedLoad) (past : List Moment) (s : Standing) → stands.StateStands LAG terminal loads self past s →
-                length past ≡ now.0 → stands.NextStands LAG terminal loads result past (record { shown = heard; may = may_accept }) s
-        }
+        requires { (terminal : TerminalData) × (loads : List TimedLoad) × (past : List Moment) × (s : Standing) × stands.StateStands LAG terminal loads self past s
+            × (length past ≡ now.0) × (now.0 < 2 ^ 60) }
+        ensures { (terminal : TerminalData) (loads : List TimedLoad) (past : List Moment) (s : Standing) → stands.StateStands LAG terminal loads self past s →
+            length past ≡ now.0 → stands.NextStands LAG terminal loads result past (record { shown = heard; may = may_accept }) s }
     {
         match self {
             TerminalState::Listening(state) => state.hear(now, heard, may_accept),
@@ -196,7 +195,8 @@ impl TerminalState {
     {
         match self {
             TerminalState::Answering(state) => state.drive(),
-            TerminalState::Listening(_) | TerminalState::Promised(_) | TerminalState::Owing(_) => Drive::Silent,
+            TerminalState::Listening(_) | TerminalState::Promised(_) | TerminalState::Owing(_) =>
+                Drive::Silent,
         }
     }
 }

@@ -34,9 +34,7 @@ impl Terminal {
     pub fn new(plan: TerminalPlan) -> Terminal
         requires fits { TerminalFits LAG plan }
         requires loads { HasLoads plan.loads }
-        ensures {
-            (n : ℕ) → TerminalStands LAG plan [] result (record { memory = first_memory plan; ticks = quiet_moments n })
-        }
+        ensures { (n : ℕ) → TerminalStands LAG plan [] result (record { memory = first_memory plan; ticks = quiet_moments n }) }
     {
         let memory = loaded_memory(&plan.loads);
         Terminal {
@@ -53,50 +51,38 @@ impl Terminal {
     /// Hears what both channels show in the tick `now`, which follows the last tick heard. `may_accept` says that the terminal's station has
     /// items left.
     pub fn hear(&mut self, now: Tick, heard: Pair, may_accept: bool) -> TerminalEvent
-        requires {
-            (plan : TerminalData) × (loads : List TimedLoad) × (hearing : Hearing) × TerminalStands LAG plan loads self.old hearing
-                × (length hearing.ticks ≡ now.0) × (now.0 < 2 ^ 60)
-        }
-        ensures stands {
-            (plan : TerminalData) (loads : List TimedLoad) (hearing : Hearing) → TerminalStands LAG plan loads self.old hearing → length hearing.ticks ≡ now.0 →
-                TerminalStands LAG plan loads self.new (record hearing { ticks = record { shown = heard; may = may_accept } ∷ hearing.ticks })
-        }
-        ensures took {
-            (plan : TerminalData) (loads : List TimedLoad) (hearing : Hearing) → TerminalStands LAG plan loads self.old hearing → length hearing.ticks ≡ now.0 →
-                TakenIs result now.0
-                    (channel_of (standing LAG plan loads hearing.memory hearing.ticks)
-                        (order_now LAG plan (record { shown = heard; may = may_accept } ∷ hearing.ticks) (standing LAG plan loads hearing.memory hearing.ticks)))
-                    (took_now LAG plan loads (record hearing { ticks = record { shown = heard; may = may_accept } ∷ hearing.ticks }))
-        }
+        requires { (plan : TerminalData) × (loads : List TimedLoad) × (hearing : Hearing) × TerminalStands LAG plan loads self.old hearing
+            × (length hearing.ticks ≡ now.0) × (now.0 < 2 ^ 60) }
+        ensures stands { (plan : TerminalData) (loads : List TimedLoad) (hearing : Hearing) → TerminalStands LAG plan loads self.old hearing → length hearing.ticks ≡ now.0 →
+            TerminalStands LAG plan loads self.new (record hearing { ticks = record { shown = heard; may = may_accept } ∷ hearing.ticks }) }
+        ensures took { (plan : TerminalData) (loads : List TimedLoad) (hearing : Hearing) → TerminalStands LAG plan loads self.old hearing → length hearing.ticks ≡ now.0 →
+            TakenIs result now.0
+            (channel_of (standing LAG plan loads hearing.memory hearing.ticks)
+            (order_now LAG plan (record { shown = heard; may = may_accept } ∷ hearing.ticks) (standing LAG plan loads hearing.memory hearing.ticks)))
+            (took_now LAG plan loads (record hearing { ticks = record { shown = heard; may = may_accept } ∷ hearing.ticks })) }
     {
         self.step(now, heard, may_accept)
     }
 
     /// What it sends in the next tick.
     pub fn drive(&self) -> Drive
-        ensures {
-            (plan : TerminalData) (loads : List TimedLoad) (hearing : Hearing) → TerminalStands LAG plan loads self.now hearing → result ≡ drives LAG plan loads hearing
-        }
+        ensures { (plan : TerminalData) (loads : List TimedLoad) (hearing : Hearing) → TerminalStands LAG plan loads self.now hearing → result ≡ drives LAG plan loads hearing }
     {
         self.state.drive()
     }
 
     /// Its registers.
     pub fn registers(&self) -> &Registers
-        ensures {
-            (plan : TerminalData) (loads : List TimedLoad) (hearing : Hearing) → TerminalStands LAG plan loads self.now hearing →
-                result.now ≡ (memory_after LAG plan loads hearing).registers
-        }
+        ensures { (plan : TerminalData) (loads : List TimedLoad) (hearing : Hearing) → TerminalStands LAG plan loads self.now hearing →
+            result.now ≡ (memory_after LAG plan loads hearing).registers }
     {
         self.state.common().memory.registers()
     }
 
     /// Its blocks.
     pub fn buffers(&self) -> &Buffers
-        ensures {
-            (plan : TerminalData) (loads : List TimedLoad) (hearing : Hearing) → TerminalStands LAG plan loads self.now hearing →
-                result.now ≡ record { received = (memory_after LAG plan loads hearing).received; transmit = (memory_after LAG plan loads hearing).transmit }
-        }
+        ensures { (plan : TerminalData) (loads : List TimedLoad) (hearing : Hearing) → TerminalStands LAG plan loads self.now hearing →
+            result.now ≡ record { received = (memory_after LAG plan loads hearing).received; transmit = (memory_after LAG plan loads hearing).transmit } }
     {
         self.state.common().memory.buffers()
     }
@@ -104,10 +90,8 @@ impl Terminal {
     /// Its status word, formed from the registers as they stand, without acceptance.
     pub fn status(&self) -> Status
         requires { (plan : TerminalData) × (loads : List TimedLoad) × (hearing : Hearing) × TerminalStands LAG plan loads self.now hearing }
-        ensures {
-            (plan : TerminalData) (loads : List TimedLoad) (hearing : Hearing) → TerminalStands LAG plan loads self.now hearing →
-                result ≡ kept.status_of plan (memory_after LAG plan loads hearing).registers false
-        }
+        ensures { (plan : TerminalData) (loads : List TimedLoad) (hearing : Hearing) → TerminalStands LAG plan loads self.now hearing →
+            result ≡ kept.status_of plan (memory_after LAG plan loads hearing).registers false }
     {
         let common = self.state.common();
         status_of(&common.plan, *common.memory.registers(), false)
@@ -115,10 +99,8 @@ impl Terminal {
 
     /// It listens as after any number of quiet ticks; what it keeps stays.
     pub fn wake(&mut self)
-        ensures {
-            (plan : TerminalData) (loads : List TimedLoad) (hearing : Hearing) (n : ℕ) → TerminalStands LAG plan loads self.old hearing → AreMade plan.address n loads →
-                TerminalStands LAG plan loads self.new (record { memory = memory_after LAG plan loads hearing; ticks = quiet_moments n })
-        }
+        ensures { (plan : TerminalData) (loads : List TimedLoad) (hearing : Hearing) (n : ℕ) → TerminalStands LAG plan loads self.old hearing → AreMade plan.address n loads →
+            TerminalStands LAG plan loads self.new (record { memory = memory_after LAG plan loads hearing; ticks = quiet_moments n }) }
     {
         self.rest()
     }
@@ -126,23 +108,27 @@ impl Terminal {
     fn rest(&mut self)
         ensures { RestsFrom LAG self.new.state (common_of self.old.state) }
     {
-        core::mem::replace_with(&mut self.state, (), |state: TerminalState, unit: ()| (rested(state), unit))
+        core::mem::replace_with(
+            &mut self.state,
+            (),
+            |state: TerminalState, unit: ()| (rested(state), unit),
+        )
     }
 
     fn step(&mut self, now: Tick, heard: Pair, may_accept: bool) -> TerminalEvent
-        requires {
-            (terminal : TerminalData) × (loads : List TimedLoad) × (past : List Moment) × (s : Standing) × StateStands LAG terminal loads self.old.state past s
-                × (length past ≡ now.0) × (now.0 < 2 ^ 60)
-        }
-        ensures {
-            (terminal : TerminalData) (loads : List TimedLoad) (past : List Moment) (s : Standing) → StateStands LAG terminal loads self.old.state past s →
-                length past ≡ now.0 → NextStands LAG terminal loads (record { state = self.new.state; event = result }) past (record { shown = heard; may = may_accept }) s
-        }
+        requires { (terminal : TerminalData) × (loads : List TimedLoad) × (past : List Moment) × (s : Standing) × StateStands LAG terminal loads self.old.state past s
+            × (length past ≡ now.0) × (now.0 < 2 ^ 60) }
+        ensures { (terminal : TerminalData) (loads : List TimedLoad) (past : List Moment) (s : Standing) → StateStands LAG terminal loads self.old.state past s →
+            length past ≡ now.0 → NextStands LAG terminal loads (record { state = self.new.state; event = result }) past (record { shown = heard; may = may_accept }) s }
     {
-        core::mem::replace_with(&mut self.state, (now, heard, may_accept), |state: TerminalState, tick: (Tick, Pair, bool)| {
-            let next = state.hear(tick.0, tick.1, tick.2);
-            (next.state, next.event)
-        })
+        core::mem::replace_with(
+            &mut self.state,
+            (now, heard, may_accept),
+            |state: TerminalState, tick: (Tick, Pair, bool)| {
+                let next = state.hear(tick.0, tick.1, tick.2);
+                (next.state, next.event)
+            },
+        )
     }
 }
 

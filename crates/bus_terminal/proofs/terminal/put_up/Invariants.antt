@@ -7,5 +7,5 @@ abbrev pub invariant-loop-load : goal.invariant-loop-load
 invariant-loop-load l = record {
   blocks : loaded l.memory.transmit (drop l.load-index l.loads) ≡ loaded l.initial.memory.transmit l.loads;
   registers : l.memory.registers ≡ l.initial.memory.registers;
-  received : l.memory.received ≡ l.initial.memory.received
+  received : l.memory.received ≡ l.initial.memory.received;
 }

@@ -14,10 +14,10 @@ pub returns-clause-stands : goal.returns-clause-stands
 returns-clause-stands c = λ terminal loads past s after moment st here shown begins.
     let own : c.own_address-own.result ≡ terminal.address = c.own_address-own.ensures ∙ ap (λ (p : TerminalData). p.address) st.plan in
     subst (λ (n : ℕ). EarsStand LAG n c.listen.new.self (moment ∷ past) (marked_by LAG terminal moment past s after)) own
-      (c.listen.ensures.stands terminal past s after moment (sym own) (subst (λ (n : ℕ). EarsStand LAG n c.args.self.now.ears past s) (sym own) st.ears) here shown begins)
+    (c.listen.ensures.stands terminal past s after moment (sym own) (subst (λ (n : ℕ). EarsStand LAG n c.args.self.now.ears past s) (sym own) st.ears) here shown begins)
 
 pub returns-clause-tells : goal.returns-clause-tells
 returns-clause-tells c = λ terminal loads past s moment st here shown.
     let own : c.own_address-own.result ≡ terminal.address = c.own_address-own.ensures ∙ ap (λ (p : TerminalData). p.address) st.plan in
     subst (λ (n : ℕ). AreListened LAG n c.listen.result (moment ∷ past) past s) own
-      (c.listen.ensures.tells past s moment (subst (λ (n : ℕ). EarsStand LAG n c.args.self.now.ears past s) (sym own) st.ears) here shown)
+    (c.listen.ensures.tells past s moment (subst (λ (n : ℕ). EarsStand LAG n c.args.self.now.ears past s) (sym own) st.ears) here shown)

@@ -24,7 +24,7 @@ returns-in-Some c = λ terminal loads past s st here.
     let told = c.listen-listened.ensures.tells terminal loads past s moment st.common here refl in
     let some = some-handled s _ c.in-Some.handled _ (rests-heard LAG terminal loads c.args.self past moment s c.listen-listened.result st told) (sym c.found.ensures ∙ c.in-Some.is) in
     c.act.ensures terminal loads c.args.self.common past moment s some.0 st.common some.1 some.2 c.listen-listened.ensures.plan c.listen-listened.ensures.memory
-      (λ after. c.listen-listened.ensures.stands terminal loads past s after moment st.common here refl (rests-listens LAG terminal past s st.rests_now)) (sym here) refl
+    (λ after. c.listen-listened.ensures.stands terminal loads past s after moment st.common here refl (rests-listens LAG terminal past s st.rests_now)) (sym here) refl
 
 pub returns-in-None : goal.returns-in-None
 returns-in-None c = λ terminal loads past s st here.
@@ -32,4 +32,4 @@ returns-in-None c = λ terminal loads past s st here.
     let told = c.listen-listened.ensures.tells terminal loads past s moment st.common here refl in
     let none = none-handled s _ _ (rests-heard LAG terminal loads c.args.self past moment s c.listen-listened.result st told) (sym c.found.ensures ∙ c.in-None.is) in
     rests-none LAG terminal loads c.args.self c.listen-listened.new.self past moment s st none c.listen-listened.ensures.plan c.listen-listened.ensures.memory
-      (c.listen-listened.ensures.stands terminal loads past s s moment st.common here refl (rests-listens LAG terminal past s st.rests_now))
+    (c.listen-listened.ensures.stands terminal loads past s s moment st.common here refl (rests-listens LAG terminal past s st.rests_now))

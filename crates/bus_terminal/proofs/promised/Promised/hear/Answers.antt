@@ -49,7 +49,7 @@ returns-in-Some c = λ terminal loads past s st here.
     let out = runs-out LAG terminal loads c.args.self past moment s c.either-since.result c.runs_out-out.result st since (rw here c.runs_out-out.ensures) in
     let some = some-handled s _ c.in-Some.handled _ (all-found LAG terminal past moment s c.listen-listened.result (Some c.args.self.waiting) c.runs_out-out.result told (promised-awaits LAG terminal loads c.args.self past s st) out) (sym found ∙ c.in-Some.is) in
     c.act.ensures terminal loads c.args.self.common past moment s some.0 st.common some.1 some.2 c.listen-listened.ensures.plan c.listen-listened.ensures.memory
-      (λ after. c.listen-listened.ensures.stands terminal loads past s after moment st.common here refl (promised-listens LAG terminal loads c.args.self past s st)) (sym here) refl
+    (λ after. c.listen-listened.ensures.stands terminal loads past s after moment st.common here refl (promised-listens LAG terminal loads c.args.self past s st)) (sym here) refl
 
 pub returns-in-None : goal.returns-in-None
 returns-in-None c = λ terminal loads past s st here.
@@ -62,6 +62,6 @@ returns-in-None c = λ terminal loads past s st here.
     let not_out = last-none _ _ _ c.runs_out-out.result (sym found ∙ c.in-None.is) in
     let stands = c.listen-listened.ensures.stands terminal loads past s s moment st.common here refl (promised-listens LAG terminal loads c.args.self past s st) in
     rw (c.wait_on.ensures, c.either-since.ensures)
-      (promised-none LAG terminal loads c.args.self c.listen-listened.new.self past moment s c.is_heard.result c.runs_out-out.result c.supersede-newer.result
-        st none c.listen-listened.ensures.plan c.listen-listened.ensures.memory stands c.is_heard.ensures (rw (here, ← c.either-since.ensures) c.runs_out-out.ensures) not_out
-        (c.supersede-newer.ensures terminal.address (moment ∷ past) (marked_by LAG terminal moment past s s) stands st.waiting.channel st.waiting.end))
+    (promised-none LAG terminal loads c.args.self c.listen-listened.new.self past moment s c.is_heard.result c.runs_out-out.result c.supersede-newer.result
+    st none c.listen-listened.ensures.plan c.listen-listened.ensures.memory stands c.is_heard.ensures (rw (here, ← c.either-since.ensures) c.runs_out-out.ensures) not_out
+    (c.supersede-newer.ensures terminal.address (moment ∷ past) (marked_by LAG terminal moment past s s) stands st.waiting.channel st.waiting.end))

@@ -20,6 +20,6 @@ unfolding TerminalStands
 returns c = λ plan loads hearing st.
     let common = state-common LAG plan loads c.args.self.now.state hearing.ticks _ st in
     c.status_of.ensures
-      ∙ ap (λ (p : TerminalData). status_of p c.registers.result.now false) (ap (λ (x : Common). x.plan) c.common-common.ensures ∙ common.plan)
-      ∙ ap (λ (r : Registers). status_of plan r false)
-        (c.registers.ensures ∙ ap (λ (x : Common). x.memory.registers) c.common-common.ensures ∙ ap (λ (m : Memory). m.registers) common.memory)
+    ∙ ap (λ (p : TerminalData). status_of p c.registers.result.now false) (ap (λ (x : Common). x.plan) c.common-common.ensures ∙ common.plan)
+    ∙ ap (λ (r : Registers). status_of plan r false)
+    (c.registers.ensures ∙ ap (λ (x : Common). x.memory.registers) c.common-common.ensures ∙ ap (λ (m : Memory). m.registers) common.memory)
