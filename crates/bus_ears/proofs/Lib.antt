@@ -1,0 +1,4 @@
+pub mod Slots
+pub mod Sending
+pub mod Bursts
+pub mod EarLaws

@@ -1,0 +1,99 @@
+-- An order that is handled leaves a state that stands.
+use Rattle.std.proofs.Common.{◌≡◌, ℕ, zero, suc, ◌+◌, ◌-◌, ◌<◌, ◌≤◌, Bool, true, false, List, [], ◌∷◌, length, Option, Some, None, refl, sym, ap, ◌∙◌, subst, arith, inl, inr, ◌⊎◌}
+use Rattle.bus_base.specs.declared.samples.Channel.{Channel}
+use Rattle.bus_base.specs.declared.samples.Part.{Part}
+use Rattle.bus_line.specs.Past.{quiet, ended_now, end_of}
+use Rattle.bus_formats.specs.Plans.{TerminalData}
+use Rattle.bus_model.specs.Memory.{Memory, TimedLoad, with_loads}
+use Rattle.bus_model.specs.Orders.{Obeyed, Duty, free, unkept}
+use Rattle.bus_model.specs.Hearing.{Moment, heard_on}
+use Rattle.bus_model.specs.Standing.{Standing, obeys, settles, runs_out, Handled, superseded, is_owed}
+use Rattle.bus_model.specs.Terminal.{done_by, after_order, marked_by, order_now}
+use Rattle.bus_terminal.specs.Holding.{EarsStand}
+use Rattle.bus_terminal.specs.Handling.{PerformedIs}
+use Rattle.bus_terminal.specs.Stands.{TerminalFits, AreMade, CommonStands, StateStands}
+use Rattle.bus_terminal.specs.Steps.{stands_told}
+use Rattle.bus_terminal.specs.declared.common.Common.{Common}
+use Rattle.bus_terminal.specs.declared.common.Ears.{Ears}
+use Rattle.bus_terminal.specs.declared.handling.Performed.{Performed}
+use Rattle.bus_terminal.proofs.Heard.{length-heard}
+use Rattle.bus_terminal.proofs.Loads.{loads-same, made-more, absorbed-like, order-keeps}
+use Rattle.bus_terminal.proofs.Standing.{Recent, left-stands}
+use Rattle.bus_terminal.proofs.Ends.{Ends, now-ends, ended-place}
+
+order-leaves : (s : Standing) (order : Handled) (o : Obeyed) → ((after_order s order o).memory ≡ o.memory) × ((after_order s order o).duty ≡ o.duty)
+order-leaves s (obeys c end order rest) o = (refl, refl)
+order-leaves s (settles end slots rest) o = (refl, refl)
+order-leaves s runs_out o = (refl, refl)
+
+place-of : (k : ℕ) (heard : List Moment) (c : Channel) (end n : ℕ) → length heard ≡ n → (e : (length (heard_on c heard) ≡ end + suc k)) → length heard ≡ end + suc k
+place-of k heard c end n here e = sym (length-heard c heard) ∙ e
+
+-- where the order's burst ended, the end has just become known
+order-recent : (k : ℕ) (terminal : TerminalData) (heard : List Moment) (s : Standing) (memory : Memory) (may : Bool) (order : Handled) → Ends k heard s order →
+    ((done_by k terminal s memory may order).duty ≡ free)
+    ⊎ ((length heard ≡ (after_order s order (done_by k terminal s memory may order)).end + suc k)
+    × (quiet (heard_on (after_order s order (done_by k terminal s memory may order)).channel heard) ≡ suc k))
+order-recent k terminal heard s memory may (obeys c end order rest) (burst, e, at) =
+    let place = ended-place k (heard_on c heard) burst e in
+    inr (omega (arith, place.0, length-heard c heard, at), place.1)
+order-recent k terminal heard s memory may (settles end slots rest) (burst, e, at) =
+    let place = ended-place k (heard_on s.channel heard) burst e in
+    inr (omega (arith, place.0, length-heard s.channel heard, at), place.1)
+order-recent k terminal heard s memory may runs_out ends = inl refl
+
+order-ended : (k : ℕ) (terminal : TerminalData) (heard : List Moment) (s : Standing) (o : Obeyed) (order : Handled) → Ends k heard s order → s.end ≤ length heard →
+    (after_order s order o).end ≤ length heard
+order-ended k terminal heard s o (obeys c end order rest) (burst, e, at) h =
+    omega (arith, (ended-place k (heard_on c heard) burst e).0, length-heard c heard, at)
+order-ended k terminal heard s o (settles end slots rest) (burst, e, at) h =
+    omega (arith, (ended-place k (heard_on s.channel heard) burst e).0, length-heard s.channel heard, at)
+order-ended k terminal heard s o runs_out ends h = h
+
+-- what is the same in every state, after an order
+pub common-after : (k : ℕ) (terminal : TerminalData) (loads : List TimedLoad) (common : Common) (after : Memory) (ears : Ears) (past : List Moment) (now : Moment) (s : Standing) (order : Handled) →
+    CommonStands k terminal loads common past s → order_now k terminal (now ∷ past) s ≡ Some order →
+    after ≡ (done_by k terminal s common.memory now.may order).memory →
+    EarsStand k terminal.address ears (now ∷ past) (marked_by k terminal now past s (after_order s order (done_by k terminal s common.memory now.may order))) →
+    CommonStands k terminal loads (record { plan = common.plan; memory = after; ears = ears }) (now ∷ past)
+    (marked_by k terminal now past s (after_order s order (done_by k terminal s common.memory now.may order)))
+common-after k terminal loads common after ears past now s order st is left hear =
+    let o : Obeyed = done_by k terminal s common.memory now.may order in
+    let same : o.memory.transmit ≡ common.memory.transmit = order-keeps k terminal s common.memory now.may order in
+    let has : with_loads terminal.address (length past) loads o.memory ≡ o.memory =
+    absorbed-like terminal.address (length past) loads common.memory o.memory st.absorbed same in
+    let has_more : with_loads terminal.address (suc (length past)) loads o.memory ≡ o.memory =
+    loads-same terminal.address (length past) loads o.memory st.made ∙ has in
+    let memory_is : (after_order s order o).memory ≡ o.memory = (order-leaves s order o).0 in
+    record {
+      plan = st.plan;
+      fits = st.fits;
+      memory = left ∙ sym has_more ∙ ap (with_loads terminal.address (suc (length past)) loads) (sym memory_is);
+      absorbed = ap (with_loads terminal.address (suc (length past)) loads) left ∙ has_more ∙ sym left;
+      made = made-more terminal.address (length past) loads st.made;
+      ears = hear;
+      ended = order-ended k terminal (now ∷ past) s o order (now-ends k terminal now past s order is) (omega (arith, st.ended));
+    }
+
+-- the state that is left
+pub acted : (k : ℕ) (terminal : TerminalData) (loads : List TimedLoad) (common : Common) (after : Memory) (ears : Ears) (past : List Moment) (now : Moment) (s : Standing) (order : Handled)
+    (performed : Performed) (b : Bool) (n : ℕ) →
+    CommonStands k terminal loads common past s → order_now k terminal (now ∷ past) s ≡ Some order → n ≡ suc (length past) →
+    PerformedIs performed after s order (done_by k terminal s common.memory now.may order) →
+    EarsStand k terminal.address ears (now ∷ past) (marked_by k terminal now past s (after_order s order (done_by k terminal s common.memory now.may order))) →
+    b ≡ superseded k (marked_by k terminal now past s (after_order s order (done_by k terminal s common.memory now.may order))) →
+    StateStands k terminal loads
+    (stands_told (record { plan = common.plan; memory = after; ears = ears }) b n performed.channel performed.end performed.part performed.done.duty)
+    (now ∷ past) (marked_by k terminal now past s (after_order s order (done_by k terminal s common.memory now.may order)))
+acted k terminal loads common after ears past now s order performed b n st is here does hear is_b =
+    let o : Obeyed = done_by k terminal s common.memory now.may order in
+    let leaves = order-leaves s order o in
+    let left : Standing = marked_by k terminal now past s (after_order s order o) in
+    let recent : Recent k (now ∷ past) left =
+    elim (order-recent k terminal (now ∷ past) s common.memory now.may order (now-ends k terminal now past s order is)) [
+      | inl none ↦ inl (leaves.1 ∙ none)
+      | inr place ↦ inr place
+    ] in
+    left-stands k terminal loads (record { plan = common.plan; memory = after; ears = ears }) n (now ∷ past) left performed.channel performed.end performed.part performed.done.duty b
+    (common-after k terminal loads common after ears past now s order st is does.done.memory hear)
+    here (sym does.channel) (sym does.end) (λ owed. sym (does.part (ap is_owed (sym leaves.1) ∙ owed))) is_b recent (does.done.duty ∙ sym leaves.1)

@@ -1,0 +1,10 @@
+use Rattle.std.proofs.Common.{◌≡◌, ap, ◌∙◌}
+use Rattle.bus_line.specs.declared.cutter.TheConstants.{LAG}
+use Rattle.bus_model.specs.Memory.{Memory}
+use Rattle.bus_terminal.specs.TerminalStands.{TerminalStands}
+use Rattle.bus_terminal.proofs.Shows.{state-common, state-drives}
+use Rattle.bus_terminal.proofs.terminal.Terminal.drive.Goals as goal
+
+pub returns : goal.returns
+unfolding TerminalStands
+returns c = λ plan loads hearing st. c.drive.ensures ∙ state-drives LAG plan loads c.args.self.now.state hearing.ticks _ st

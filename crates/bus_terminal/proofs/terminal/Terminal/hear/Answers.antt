@@ -1,0 +1,30 @@
+use Rattle.std.proofs.Common.{◌≡◌, ℕ, ◌∷◌, length, sym, subst}
+use Rattle.bus_line.specs.declared.cutter.TheConstants.{LAG}
+use Rattle.bus_model.specs.Hearing.{Moment}
+use Rattle.bus_model.specs.Standing.{Standing}
+use Rattle.bus_model.specs.Terminal.{standing, took_now, order_now, taken_by}
+use Rattle.bus_terminal.proofs.Quiet.{standing-tick}
+use Rattle.bus_terminal.specs.Stands.{StateStands, TakenIs, channel_of}
+use Rattle.bus_terminal.specs.TerminalStands.{TerminalStands}
+use Rattle.bus_terminal.proofs.terminal.Terminal.hear.Goals as goal
+
+pub step-requires : goal.step-requires
+unfolding TerminalStands
+step-requires c =
+    let (plan, loads, hearing, st, here, small) = c.requires in
+    (plan, loads, hearing.ticks, standing LAG plan loads hearing.memory hearing.ticks, st, here, small)
+
+pub returns-clause-stands : goal.returns-clause-stands
+unfolding TerminalStands
+returns-clause-stands c = λ plan loads hearing st here.
+    let now : Moment = record { shown = c.args.heard; may = c.args.may_accept } in
+    rw (standing-tick LAG plan loads hearing.memory now hearing.ticks)
+    (c.step.ensures plan loads hearing.ticks (standing LAG plan loads hearing.memory hearing.ticks) st here).state
+
+pub returns-clause-took : goal.returns-clause-took
+unfolding TerminalStands
+returns-clause-took c = λ plan loads hearing st here.
+    let now : Moment = record { shown = c.args.heard; may = c.args.may_accept } in
+    let s : Standing = standing LAG plan loads hearing.memory hearing.ticks in
+    subst (λ (n : ℕ). TakenIs c.step.result n (channel_of s (order_now LAG plan (now ∷ hearing.ticks) s)) (taken_by LAG plan loads (length hearing.ticks) now.may s (order_now LAG plan (now ∷ hearing.ticks) s)))
+    here (c.step.ensures plan loads hearing.ticks s st here).taken

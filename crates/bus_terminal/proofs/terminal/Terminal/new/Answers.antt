@@ -1,0 +1,27 @@
+use Rattle.std.proofs.Common.{◌≡◌, ℕ, [], ◌∙◌, ap, subst, sym, refl, arith}
+use Rattle.bus_line.specs.declared.cutter.TheConstants.{LAG}
+use Rattle.bus_model.specs.Memory.{first_memory}
+use Rattle.bus_model.specs.Standing.{Standing, at_rest}
+use Rattle.bus_terminal.specs.Stands.{StateStands}
+use Rattle.bus_terminal.specs.TerminalStands.{TerminalStands}
+use Rattle.bus_terminal.specs.Quiet.{quiet_moments}
+use Rattle.bus_terminal.specs.declared.state.TerminalState.TheVariants as states
+use Rattle.bus_terminal.proofs.Quiet.{quiet-stands}
+use Rattle.bus_terminal.proofs.terminal.Terminal.new.Goals as goal
+
+pub returns : goal.returns
+unfolding TerminalStands
+returns c = λ n.
+    let kept = c.loaded_memory-memory.ensures ∙ ap first_memory c.plan.view_is in
+    rw (quiet-stands LAG c.args.plan [] (first_memory c.args.plan) n) record {
+      common = record {
+        plan = refl;
+        fits = c.requires.fits;
+        memory = kept;
+        absorbed = refl;
+        made = tt;
+        ears = c.new.ensures c.args.plan.address n (first_memory c.args.plan);
+        ended = omega arith;
+      };
+      rests_now = refl;
+    }

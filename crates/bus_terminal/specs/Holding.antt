@@ -1,0 +1,33 @@
+-- For which hearings the parts of a terminal stand.
+use Rattle.std.specs.Prelude.{◌≡◌, ℕ, ◌+◌, ◌<◌, ◌≤◌, Bool, true, false, ◌&&◌, List, [], ◌∷◌, length, take, Option, Some, None}
+use Rattle.bus_base.specs.Samples.{same_channel, sample_on}
+use Rattle.bus_base.specs.declared.samples.Channel.{Channel}
+use Rattle.bus_base.specs.declared.samples.Channel.TheVariants.{A, B}
+use Rattle.bus_formats.specs.Plans.{TerminalData}
+use Rattle.bus_ears.specs.Ears.{EarStands, IsHeard}
+use Rattle.bus_ears.specs.declared.ear.TheConstants.{MOST_SLOTS}
+use Rattle.bus_model.specs.Hearing.{Moment, heard_on}
+use Rattle.bus_model.specs.Standing.{Standing, mark_on, ignored_from, outrun}
+use Rattle.bus_model.specs.Terminal.{begins}
+use Rattle.bus_terminal.specs.declared.common.Ears.{Ears}
+use Rattle.bus_terminal.specs.declared.common.Listened.{Listened}
+
+abbrev pub begins_on : Option Channel → Channel → Bool
+begins_on None c = false
+begins_on (Some begun) c = same_channel begun c
+
+-- both ears stand for what was heard, with the marks of what stands
+pub record EarsStand (k own : ℕ) (ears : Ears) (past : List Moment) (s : Standing) : Type 0 where
+  pub on_a : EarStands k MOST_SLOTS own ears.a (heard_on A past) s.sent.a s.addressed.a
+  pub on_b : EarStands k MOST_SLOTS own ears.b (heard_on B past) s.sent.b s.addressed.b
+
+-- the channel on which an answer begins in the tick to come
+abbrev pub Listens : ℕ → TerminalData → Option Channel → List Moment → Standing → Type 0
+Listens k terminal begun past s = (c : Channel) → begins_on begun c ≡ (begins k terminal past s && same_channel s.channel c)
+
+-- what the ears told of the newest tick, where s stood before it
+pub record AreListened (k own : ℕ) (told : Listened) (heard past : List Moment) (s : Standing) : Type 0 where
+  pub heard_a : IsHeard k MOST_SLOTS own told.a (heard_on A heard) (ignored_from k (heard_on A past) s.sent.a)
+  pub heard_b : IsHeard k MOST_SLOTS own told.b (heard_on B heard) (ignored_from k (heard_on B past) s.sent.b)
+  pub outrun_a : told.a_outrun ≡ outrun s A
+  pub outrun_b : told.b_outrun ≡ outrun s B

@@ -1,0 +1,19 @@
+-- For which hearings a terminal stands.
+use Rattle.std.specs.Prelude.{ℕ, zero, suc, false, List, [], ◌∷◌, ◌<◌, ◌≤◌, length, get_or}
+use Rattle.bus_formats.specs.Plans.{TerminalData}
+use Rattle.bus_formats.specs.declared.plan.Load.{Load}
+use Rattle.bus_model.specs.Memory.{TimedLoad}
+use Rattle.bus_model.specs.Hearing.{Hearing}
+use Rattle.bus_model.specs.Terminal.{standing}
+use Rattle.bus_terminal.specs.Stands.{StateStands}
+use Rattle.bus_terminal.specs.declared.terminal.Terminal.{Terminal}
+
+-- the terminal stands for a hearing, with the loads that were made so far: this is how it may be after them
+unfoldable pub TerminalStands : ℕ → TerminalData → List TimedLoad → Terminal → Hearing → Type 0
+TerminalStands k plan loads terminal hearing =
+    StateStands k plan loads terminal.state hearing.ticks (standing k plan loads hearing.memory hearing.ticks)
+
+-- the loads of a plan, each for a subaddress 1 to 29 and of 1 to 32 words
+abbrev pub HasLoads : List Load → Type 0
+HasLoads loads = (i : ℕ) (d : Load) → i < length loads →
+    (1 ≤ (get_or loads i d).sub) × ((get_or loads i d).sub ≤ 29) × (1 ≤ length (get_or loads i d).words) × (length (get_or loads i d).words ≤ 32)

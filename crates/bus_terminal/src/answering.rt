@@ -1,0 +1,156 @@
+//! A terminal whose answer runs.
+ghost use Rattle.std.specs.Prelude.{◌≡◌, ◌<◌, ◌^◌, ◌+◌, ◌==◌, ◌≤◌, ℕ, List, length, get_or};
+ghost use Rattle.bus_line.specs.declared.cutter.TheConstants.{LAG};
+ghost use Rattle.bus_formats.specs.Plans.{TerminalData};
+ghost use Rattle.bus_model.specs.Memory.{TimedLoad};
+ghost use Rattle.bus_model.specs.Hearing.{Moment};
+ghost use Rattle.bus_model.specs.Sending.{drive_sample};
+ghost use Rattle.bus_model.specs.Sending as sending;
+ghost use Rattle.bus_line.specs.Spelling.{spelling};
+ghost use Rattle.bus_model.specs.Standing.{Standing};
+ghost use Rattle.bus_terminal.specs.Stands.{AnsweringStands, NextStands};
+ghost use Rattle.bus_terminal.specs.Steps.{answering_on, begins_told, accepted_told, accepted_event};
+
+use crate::Listening;
+use crate::common::{Common, Listened};
+use crate::handling::found;
+use crate::state::{Sends, TerminalEvent, TerminalNext, TerminalState, act};
+use bus_base::{Channel, Drive, Pair, Part, Sample, Tick};
+use bus_line::spell;
+use bus_words::Word;
+
+/// Its answer has begun so many ticks ago, or begins in the next tick.
+#[derive(Drop)]
+pub struct Answering {
+    pub(crate) common: Common,
+    pub(crate) sends: Sends,
+    pub(crate) sent: u64,
+}
+
+impl Answering {
+    /// Hears what both channels show in the tick `now`, the number of the ticks heard before. `may_accept` says that the terminal's station
+    /// has items left.
+    pub fn hear(self, now: Tick, heard: Pair, may_accept: bool) -> TerminalNext
+        requires { (terminal : TerminalData) × (loads : List TimedLoad) × (past : List Moment) × (s : Standing) × AnsweringStands LAG terminal loads self past s
+            × (length past ≡ now.0) × (now.0 < 2 ^ 60) }
+        ensures { (terminal : TerminalData) (loads : List TimedLoad) (past : List Moment) (s : Standing) → AnsweringStands LAG terminal loads self past s →
+            length past ≡ now.0 → NextStands LAG terminal loads result past (record { shown = heard; may = may_accept }) s }
+    {
+        let mut common = self.common;
+        let sends = self.sends;
+        let begins = begins_in(self.sent, sends.channel);
+        let listened = common.listen(now.0, heard, begins);
+        let accepted = accepts(&sends, &listened, now.0.saturating_sub(self.sent));
+        match found(listened, None, false) {
+            Some(handled) => accept(act(common, now.0, handled, may_accept), accepted),
+            None => {
+                let newer = common.ears.supersede(sends.channel, sends.end);
+                let ignored = common.ears.ignore(sends.channel);
+                let next = TerminalNext {
+                    state: send_on(common, sends, self.sent + 1, newer, ignored),
+                    event: TerminalEvent::Nothing,
+                };
+                accept(next, accepted)
+            }
+        }
+    }
+
+    /// What it sends in the next tick.
+    pub(crate) fn drive(&self) -> Drive
+        ensures { result ≡ drive_sample self.now.sends.channel self.now.sends.part self.now.sends.answer.words.items self.now.sent }
+    {
+        drive_sample(
+            self.sends.channel,
+            self.sends.part,
+            self.sends.answer.words.as_slice(),
+            self.sent,
+        )
+    }
+}
+
+// Sample `place` of the words, one after the other.
+fn drive_sample(channel: Channel, part: Part, words: &[Word], place: u64) -> Drive
+    requires { length words.now ≤ 33 }
+    ensures { result ≡ sending.drive_sample channel part words.now place }
+{
+    if place / 40 >= words.len() as u64 {
+        return Drive::Silent;
+    }
+    let word = words[(place / 40) as usize];
+    Drive::On {
+        channel,
+        sample: sample_at(word, (place % 40) as usize),
+        part,
+        last: place + 1 == 40 * words.len() as u64,
+    }
+}
+
+fn sample_at(word: Word, position: usize) -> Sample
+    requires { position < 40 }
+    ensures { result ≡ get_or (spelling word) position Sample.Quiet }
+{
+    let samples = spell(word);
+    samples[position]
+}
+
+// The channel on which the answer begins, where nothing of it was sent.
+fn begins_in(sent: u64, channel: Channel) -> Option<Channel>
+    ensures { result ≡ begins_told (sent == 0) channel }
+{
+    if sent == 0 { Some(channel) } else { None }
+}
+
+// The answer runs on until a newer command comes on the other channel, or it is over.
+fn send_on(common: Common, sends: Sends, sent: u64, newer: bool, ignored: bool) -> TerminalState
+    ensures { result ≡ answering_on common sends sent newer ignored }
+{
+    if newer || !ignored {
+        TerminalState::Listening(Listening { common })
+    } else {
+        TerminalState::Answering(Answering {
+            common,
+            sends,
+            sent,
+        })
+    }
+}
+
+// The answer accepts control, and the burst that ended is it, as long as a status word at least.
+fn accepts(sends: &Sends, listened: &Listened, due: u64) -> bool {
+    let burst = match sends.channel {
+        Channel::A => &listened.a.burst,
+        Channel::B => &listened.b.burst,
+    };
+    match burst {
+        Some(burst) => sends.answer.acceptance
+            && burst.first == due
+            && burst.end >= due.saturating_add(40),
+        None => false,
+    }
+}
+
+// Control was accepted in a tick, unless a block was taken in it.
+fn accept(next: TerminalNext, accepted: bool) -> TerminalNext
+    ensures { result ≡ accepted_told next accepted }
+{
+    TerminalNext {
+        state: next.state,
+        event: accept_event(next.event, accepted),
+    }
+}
+
+fn accept_event(event: TerminalEvent, accepted: bool) -> TerminalEvent
+    ensures { result ≡ accepted_event event accepted }
+{
+    match event {
+        TerminalEvent::Took(delivery) => TerminalEvent::Took(delivery),
+        TerminalEvent::Accepted => TerminalEvent::Accepted,
+        TerminalEvent::Nothing => {
+            if accepted {
+                TerminalEvent::Accepted
+            } else {
+                TerminalEvent::Nothing
+            }
+        }
+    }
+}

@@ -1,0 +1,19 @@
+//! A remote terminal, apart from any controller (MIL-STD-1553B 4.4.3): what it sends, what it keeps and what it tells, for every history of
+//! both channels. Its states are types, and hearing a tick consumes a state and gives the next.
+#![tactic(auto)]
+
+mod answering;
+mod common;
+mod handling;
+mod listening;
+mod owing;
+mod promised;
+mod state;
+mod terminal;
+
+pub use answering::Answering;
+pub use listening::Listening;
+pub use owing::Owing;
+pub use promised::Promised;
+pub use state::{TerminalEvent, TerminalNext, TerminalState};
+pub use terminal::Terminal;

@@ -1,0 +1,60 @@
+//! A terminal that owes an answer, which isn't due yet.
+ghost use Rattle.std.specs.Prelude.{◌≡◌, ◌<◌, ◌^◌, ℕ, List, length};
+ghost use Rattle.bus_line.specs.declared.cutter.TheConstants.{LAG};
+ghost use Rattle.bus_formats.specs.Plans.{TerminalData};
+ghost use Rattle.bus_model.specs.Memory.{TimedLoad};
+ghost use Rattle.bus_model.specs.Hearing.{Moment};
+ghost use Rattle.bus_model.specs.Standing.{Standing};
+ghost use Rattle.bus_terminal.specs.Stands.{OwingStands, NextStands};
+ghost use Rattle.bus_terminal.specs.Steps.{owing_on};
+
+use crate::Listening;
+use crate::common::{Common, is_heard};
+use crate::handling::found;
+use crate::state::{Sends, TerminalEvent, TerminalNext, TerminalState, act, owe};
+use bus_base::{Pair, Tick};
+
+/// Its answer begins after its own dead ticks.
+#[derive(Drop)]
+pub struct Owing {
+    pub(crate) common: Common,
+    pub(crate) sends: Sends,
+}
+
+impl Owing {
+    /// Hears what both channels show in the tick `now`, the number of the ticks heard before. `may_accept` says that the terminal's station
+    /// has items left.
+    pub fn hear(self, now: Tick, heard: Pair, may_accept: bool) -> TerminalNext
+        requires { (terminal : TerminalData) × (loads : List TimedLoad) × (past : List Moment) × (s : Standing) × OwingStands LAG terminal loads self past s
+            × (length past ≡ now.0) × (now.0 < 2 ^ 60) }
+        ensures { (terminal : TerminalData) (loads : List TimedLoad) (past : List Moment) (s : Standing) → OwingStands LAG terminal loads self past s →
+            length past ≡ now.0 → NextStands LAG terminal loads result past (record { shown = heard; may = may_accept }) s }
+    {
+        let mut common = self.common;
+        let sends = self.sends;
+        let listened = common.listen(now.0, heard, None);
+        match found(listened, None, false) {
+            Some(handled) => act(common, now.0, handled, may_accept),
+            None => {
+                let newer = common.ears.supersede(sends.channel, sends.end);
+                let dropped = is_heard(heard, sends.channel);
+                TerminalNext {
+                    state: owe_on(common, now.0 + 1, sends, dropped, newer),
+                    event: TerminalEvent::Nothing,
+                }
+            }
+        }
+    }
+}
+
+// The answer is dropped by a sample on its channel, or by a newer command on the other.
+fn owe_on(common: Common, next: u64, sends: Sends, heard: bool, newer: bool) -> TerminalState
+    requires { sends.end < 2 ^ 60 }
+    ensures { result ≡ owing_on common next sends heard newer }
+{
+    if heard || newer {
+        TerminalState::Listening(Listening { common })
+    } else {
+        owe(common, next, sends)
+    }
+}

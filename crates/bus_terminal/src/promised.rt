@@ -1,0 +1,96 @@
+//! A relay's receiver that promised to take what the transmitter answers.
+ghost use Rattle.std.specs.Prelude.{◌≡◌, ◌<◌, ◌^◌, ◌+◌, ◌==◌, ◌&&◌, ◌||◌, not, ℕ, List, length};
+ghost use Rattle.bus_line.specs.declared.cutter.TheConstants.{LAG};
+ghost use Rattle.bus_formats.specs.Plans.{TerminalData};
+ghost use Rattle.bus_model.specs.Waits.{relay_wait};
+ghost use Rattle.bus_model.specs.Memory.{TimedLoad};
+ghost use Rattle.bus_model.specs.Hearing.{Moment};
+ghost use Rattle.bus_model.specs.Standing.{Standing};
+ghost use Rattle.bus_terminal.specs.Stands.{PromisedStands, NextStands};
+ghost use Rattle.bus_terminal.specs.Steps.{promised_on_told};
+
+use crate::Listening;
+use crate::common::{Common, is_heard};
+use crate::handling::{RELAY_WAIT, Waiting, found};
+use crate::state::{TerminalEvent, TerminalNext, TerminalState, act};
+use bus_base::{Pair, Tick};
+use bus_orders::Promise;
+
+/// It takes the next burst on the promise's channel, if that begins after at most 30 dead ticks.
+#[derive(Drop)]
+pub struct Promised {
+    pub(crate) common: Common,
+    pub(crate) waiting: Waiting,
+    // something was heard on the channel since the relay's command burst
+    pub(crate) heard: bool,
+}
+
+impl Promised {
+    /// Hears what both channels show in the tick `now`, the number of the ticks heard before. `may_accept` says that the terminal's station
+    /// has items left.
+    pub fn hear(self, now: Tick, heard: Pair, may_accept: bool) -> TerminalNext
+        requires { (terminal : TerminalData) × (loads : List TimedLoad) × (past : List Moment) × (s : Standing) × PromisedStands LAG terminal loads self past s
+            × (length past ≡ now.0) × (now.0 < 2 ^ 60) }
+        ensures { (terminal : TerminalData) (loads : List TimedLoad) (past : List Moment) (s : Standing) → PromisedStands LAG terminal loads self past s →
+            length past ≡ now.0 → NextStands LAG terminal loads result past (record { shown = heard; may = may_accept }) s }
+    {
+        let mut common = self.common;
+        let waiting = self.waiting;
+        let listened = common.listen(now.0, heard, None);
+        let since = either(self.heard, is_heard(heard, waiting.channel));
+        let out = runs_out(now.0, waiting.end, since);
+        match found(listened, Some(again(&waiting)), out) {
+            Some(handled) => act(common, now.0, handled, may_accept),
+            None => {
+                let newer = common.ears.supersede(waiting.channel, waiting.end);
+                TerminalNext {
+                    state: wait_on(common, waiting, since, newer),
+                    event: TerminalEvent::Nothing,
+                }
+            }
+        }
+    }
+}
+
+// The same promise.
+fn again(waiting: &Waiting) -> Waiting
+    ensures { result ≡ waiting.now }
+{
+    Waiting {
+        channel: waiting.channel,
+        end: waiting.end,
+        promise: Promise {
+            command: waiting.promise.command,
+            transmitter: waiting.promise.transmitter,
+        },
+    }
+}
+
+fn either(first: bool, second: bool) -> bool
+    ensures { result ≡ (first || second) }
+{
+    first || second
+}
+
+// The 31st dead tick was quiet, as all before it.
+fn runs_out(now: u64, end: u64, heard: bool) -> bool
+    requires { end < 2 ^ 60 }
+    ensures { result ≡ ((now == (end + relay_wait)) && not heard) }
+{
+    now == end + RELAY_WAIT && !heard
+}
+
+// The promise stands until a newer command comes on the other channel.
+fn wait_on(common: Common, waiting: Waiting, heard: bool, newer: bool) -> TerminalState
+    ensures { result ≡ promised_on_told common waiting heard newer }
+{
+    if newer {
+        TerminalState::Listening(Listening { common })
+    } else {
+        TerminalState::Promised(Promised {
+            common,
+            waiting,
+            heard,
+        })
+    }
+}

@@ -1,0 +1,172 @@
+//! The terminal that the layer above uses.
+ghost use Rattle.std.specs.Prelude.{◌≡◌, ◌<◌, ◌^◌, ◌∷◌, [], ℕ, List, length, false};
+ghost use Rattle.bus_line.specs.declared.cutter.TheConstants.{LAG};
+ghost use Rattle.bus_formats.specs.Plans.{TerminalData};
+ghost use Rattle.bus_model.specs.Memory.{TimedLoad, first_memory, clear_registers, no_blocks, loaded};
+ghost use Rattle.bus_model.specs.Hearing.{Hearing, Moment};
+ghost use Rattle.bus_model.specs.Standing.{Standing};
+ghost use Rattle.bus_model.specs.Terminal.{took_now, drives, memory_after, standing, order_now};
+ghost use Rattle.bus_terminal.specs.Stands.{TerminalFits, StateStands, NextStands, TakenIs, channel_of};
+ghost use Rattle.bus_terminal.specs.TerminalStands.{TerminalStands, HasLoads};
+ghost use Rattle.bus_terminal.specs.Quiet.{quiet_moments};
+ghost use Rattle.bus_terminal.specs.Stands.{AreMade, RestsFrom};
+ghost use Rattle.bus_terminal.specs.Shown.{common_of};
+ghost use Rattle.bus_model.specs.Memory as kept;
+
+use crate::Listening;
+use crate::common::{Common, Ears};
+use crate::state::{TerminalEvent, TerminalState};
+use bus_base::{Drive, Pair, Tick};
+use bus_buffers::Buffers;
+use bus_formats::{Load, Registers, TerminalPlan};
+use bus_orders::{Memory, status_of};
+use bus_words::Status;
+
+/// A remote terminal.
+#[derive(Drop)]
+pub struct Terminal {
+    state: TerminalState,
+}
+
+impl Terminal {
+    /// A terminal that listens: its registers are clear, and its blocks are empty but for the plan's loads. It stands for any number of quiet
+    /// ticks.
+    pub fn new(plan: TerminalPlan) -> Terminal
+        requires fits { TerminalFits LAG plan }
+        requires loads { HasLoads plan.loads }
+        ensures { (n : ℕ) → TerminalStands LAG plan [] result (record { memory = first_memory plan; ticks = quiet_moments n }) }
+    {
+        let memory = loaded_memory(&plan.loads);
+        Terminal {
+            state: TerminalState::Listening(Listening {
+                common: Common {
+                    plan,
+                    memory,
+                    ears: Ears::new(),
+                },
+            }),
+        }
+    }
+
+    /// Hears what both channels show in the tick `now`, which follows the last tick heard. `may_accept` says that the terminal's station has
+    /// items left.
+    pub fn hear(&mut self, now: Tick, heard: Pair, may_accept: bool) -> TerminalEvent
+        requires { (plan : TerminalData) × (loads : List TimedLoad) × (hearing : Hearing) × TerminalStands LAG plan loads self.old hearing
+            × (length hearing.ticks ≡ now.0) × (now.0 < 2 ^ 60) }
+        ensures stands { (plan : TerminalData) (loads : List TimedLoad) (hearing : Hearing) → TerminalStands LAG plan loads self.old hearing → length hearing.ticks ≡ now.0 →
+            TerminalStands LAG plan loads self.new (record hearing { ticks = record { shown = heard; may = may_accept } ∷ hearing.ticks }) }
+        ensures took { (plan : TerminalData) (loads : List TimedLoad) (hearing : Hearing) → TerminalStands LAG plan loads self.old hearing → length hearing.ticks ≡ now.0 →
+            TakenIs result now.0
+            (channel_of (standing LAG plan loads hearing.memory hearing.ticks)
+            (order_now LAG plan (record { shown = heard; may = may_accept } ∷ hearing.ticks) (standing LAG plan loads hearing.memory hearing.ticks)))
+            (took_now LAG plan loads (record hearing { ticks = record { shown = heard; may = may_accept } ∷ hearing.ticks })) }
+    {
+        self.step(now, heard, may_accept)
+    }
+
+    /// What it sends in the next tick.
+    pub fn drive(&self) -> Drive
+        ensures { (plan : TerminalData) (loads : List TimedLoad) (hearing : Hearing) → TerminalStands LAG plan loads self.now hearing → result ≡ drives LAG plan loads hearing }
+    {
+        self.state.drive()
+    }
+
+    /// Its registers.
+    pub fn registers(&self) -> &Registers
+        ensures { (plan : TerminalData) (loads : List TimedLoad) (hearing : Hearing) → TerminalStands LAG plan loads self.now hearing →
+            result.now ≡ (memory_after LAG plan loads hearing).registers }
+    {
+        self.state.common().memory.registers()
+    }
+
+    /// Its blocks.
+    pub fn buffers(&self) -> &Buffers
+        ensures { (plan : TerminalData) (loads : List TimedLoad) (hearing : Hearing) → TerminalStands LAG plan loads self.now hearing →
+            result.now ≡ record { received = (memory_after LAG plan loads hearing).received; transmit = (memory_after LAG plan loads hearing).transmit } }
+    {
+        self.state.common().memory.buffers()
+    }
+
+    /// Its status word, formed from the registers as they stand, without acceptance.
+    pub fn status(&self) -> Status
+        requires { (plan : TerminalData) × (loads : List TimedLoad) × (hearing : Hearing) × TerminalStands LAG plan loads self.now hearing }
+        ensures { (plan : TerminalData) (loads : List TimedLoad) (hearing : Hearing) → TerminalStands LAG plan loads self.now hearing →
+            result ≡ kept.status_of plan (memory_after LAG plan loads hearing).registers false }
+    {
+        let common = self.state.common();
+        status_of(&common.plan, *common.memory.registers(), false)
+    }
+
+    /// It listens as after any number of quiet ticks; what it keeps stays.
+    pub fn wake(&mut self)
+        ensures { (plan : TerminalData) (loads : List TimedLoad) (hearing : Hearing) (n : ℕ) → TerminalStands LAG plan loads self.old hearing → AreMade plan.address n loads →
+            TerminalStands LAG plan loads self.new (record { memory = memory_after LAG plan loads hearing; ticks = quiet_moments n }) }
+    {
+        self.rest()
+    }
+
+    fn rest(&mut self)
+        ensures { RestsFrom LAG self.new.state (common_of self.old.state) }
+    {
+        core::mem::replace_with(
+            &mut self.state,
+            (),
+            |state: TerminalState, unit: ()| (rested(state), unit),
+        )
+    }
+
+    fn step(&mut self, now: Tick, heard: Pair, may_accept: bool) -> TerminalEvent
+        requires { (terminal : TerminalData) × (loads : List TimedLoad) × (past : List Moment) × (s : Standing) × StateStands LAG terminal loads self.old.state past s
+            × (length past ≡ now.0) × (now.0 < 2 ^ 60) }
+        ensures { (terminal : TerminalData) (loads : List TimedLoad) (past : List Moment) (s : Standing) → StateStands LAG terminal loads self.old.state past s →
+            length past ≡ now.0 → NextStands LAG terminal loads (record { state = self.new.state; event = result }) past (record { shown = heard; may = may_accept }) s }
+    {
+        core::mem::replace_with(
+            &mut self.state,
+            (now, heard, may_accept),
+            |state: TerminalState, tick: (Tick, Pair, bool)| {
+                let next = state.hear(tick.0, tick.1, tick.2);
+                (next.state, next.event)
+            },
+        )
+    }
+}
+
+// The state that listens with fresh ears.
+fn rested(state: TerminalState) -> TerminalState
+    ensures { RestsFrom LAG result (common_of state) }
+{
+    let common = match state {
+        TerminalState::Listening(state) => state.common,
+        TerminalState::Promised(state) => state.common,
+        TerminalState::Owing(state) => state.common,
+        TerminalState::Answering(state) => state.common,
+    };
+    let Common { plan, memory, .. } = common;
+    TerminalState::Listening(Listening {
+        common: Common {
+            plan,
+            memory,
+            ears: Ears::new(),
+        },
+    })
+}
+
+// Clear registers, and empty blocks but for these loads.
+fn loaded_memory(loads: &Vec<Load>) -> Memory
+    requires { HasLoads loads.now.items }
+    ensures { result ≡ record { registers = clear_registers; received = no_blocks; transmit = loaded no_blocks loads.now.items } }
+{
+    let mut memory = Memory::new();
+    put_up(&mut memory, loads.as_slice());
+    memory
+}
+
+fn put_up(memory: &mut Memory, loads: &[Load])
+    requires { HasLoads loads.now }
+    ensures { memory.new ≡ record memory.old { transmit = loaded memory.old.transmit loads.now } }
+{
+    for load in loads {
+        memory.load(load.sub, load.words.words());
+    }
+}
