@@ -11,7 +11,8 @@ use Rattle.bus_line.specs.Cutting.{Tells, running_slots}
 use Rattle.bus_line.proofs.PastLaws.{runs-from, stopped-more}
 use Rattle.bus_line.proofs.LookUpLaws.{ended-known}
 use Rattle.bus_line.proofs.SlotLaws.{burst-ticks, burst-first, slots-count}
-use Rattle.bus_line.proofs.CutNow.{ended-more, running-on}
+use Rattle.bus_line.proofs.CollectLaws.{running-on}
+use Rattle.bus_line.proofs.CutNow.{ended-more}
 
 is-some-test : {A : Type 0} (b : Bool) (x y : A) → (if b then Some x else None) ≡ Some y → b ≡ true
 is-some-test true x y e = refl

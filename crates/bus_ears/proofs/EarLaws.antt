@@ -17,7 +17,8 @@ use Rattle.bus_ears.specs.Steps.{EndFits, after_cut, burst_told, with_slot, kept
 use Rattle.bus_ears.specs.declared.ear.Ear.{Ear}
 use Rattle.bus_ears.specs.declared.ear.HeardBurst.{HeardBurst}
 use Rattle.bus_ears.proofs.Slots.{holds-none, holds-command, holds-other}
-use Rattle.bus_line.proofs.CutNow.{cut-tells, cut-collects}
+use Rattle.bus_line.proofs.CollectLaws.{cut-collects}
+use Rattle.bus_line.proofs.CutNow.{cut-tells}
 use Rattle.bus_ears.proofs.Sending.{ignores-is, ignores-more}
 use Rattle.bus_ears.proofs.Bursts.{ended-slots, ended-placed, IsPlaced}
 

@@ -51,11 +51,11 @@ pub data-whole : (slots : List (Option Word)) (block : List ℕ) →
 data-whole slots block = rw (drop-length slots) (ap Some (append-nil block))
 
 -- what a transmitter sent, by its first slot and the others
-pub relayed-first : (told : TerminalData) (kept : Memory) (channel : Channel) (count transmitter rest : ℕ) (slots : List (Option Word)) (d : Option Word) →
+pub relayed-first : (count transmitter rest : ℕ) (slots : List (Option Word)) (d : Option Word) →
     0 < length slots → rest ≡ 0 →
-    data_from told kept channel count transmitter (command_in (get_or slots 0 d)) (take (length slots - 1) (drop 1 slots))
-    ≡ relayed told kept channel count transmitter slots rest
-relayed-first told kept channel count transmitter rest [] d h none = absurd (omega (arith, h))
-relayed-first told kept channel count transmitter rest (slot ∷ slots) d h none =
+    data_from count transmitter (command_in (get_or slots 0 d)) (take (length slots - 1) (drop 1 slots))
+    ≡ relayed count transmitter slots rest
+relayed-first count transmitter rest [] d h none = absurd (omega (arith, h))
+relayed-first count transmitter rest (slot ∷ slots) d h none =
     let all : length (slot ∷ slots) - 1 ≡ length slots = omega arith in
     rw (none, all, take-all slots) refl

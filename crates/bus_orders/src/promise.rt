@@ -74,7 +74,7 @@ fn with_error(registers: Registers, message_error: bool) -> Registers
 // The data words of a transmitter's answer.
 fn relayed(count: u8, transmitter: u8, slots: &[Option<Word>], rest: u8) -> Option<Block>
     requires { count ≤ 32 }
-    ensures { (told : TerminalData) (kept : Memory) (channel : Channel) → result ≡ spec.relayed told kept channel count transmitter slots.now rest }
+    ensures { result ≡ spec.relayed count transmitter slots.now rest }
 {
     if rest != 0 {
         return None;
@@ -92,7 +92,7 @@ fn data_from(
     slots: &[Option<Word>],
 ) -> Option<Block>
     requires { count ≤ 32 }
-    ensures { (told : TerminalData) (kept : Memory) (channel : Channel) → result ≡ spec.data_from told kept channel count transmitter status slots.now }
+    ensures { result ≡ spec.data_from count transmitter status slots.now }
 {
     if Status::of(status?).address() == transmitter {
         data_in(count, slots)

@@ -1,7 +1,7 @@
 use Rattle.std.proofs.Common.{◌≡◌, ℕ, refl, sym, []}
 use Rattle.bus_line.specs.declared.cutter.TheConstants.{LAG}
 use Rattle.bus_line.proofs.CutLaws.{rests-alone}
-use Rattle.bus_line.proofs.CutNow.{running-off}
+use Rattle.bus_line.proofs.CollectLaws.{running-off}
 use Rattle.bus_line.specs.Past.{quiet_ticks}
 use Rattle.bus_ears.specs.declared.ear.TheConstants.{MOST_SLOTS}
 use Rattle.bus_ears.proofs.Slots.{holds-none}
