@@ -33,20 +33,20 @@ pub obey-short : (terminal : TerminalData) (memory : Memory) (c : Channel) (comm
 obey-short terminal memory c command m rest slots may h =
     ap (obey_tail terminal memory c command may) (tail-short terminal.address command m rest slots h)
 
-relayed-short : (terminal : TerminalData) (memory : Memory) (c : Channel) (count transmitter m rest : ℕ) (slots : List (Option Word)) → count < m →
-    relayed terminal memory c count transmitter (take (suc m) slots) rest ≡ relayed terminal memory c count transmitter slots rest
-relayed-short terminal memory c count transmitter m rest [] h = refl
-relayed-short terminal memory c count transmitter m zero (slot ∷ slots) h =
+relayed-short : (count transmitter m rest : ℕ) (slots : List (Option Word)) → count < m →
+    relayed count transmitter (take (suc m) slots) rest ≡ relayed count transmitter slots rest
+relayed-short count transmitter m rest [] h = refl
+relayed-short count transmitter m zero (slot ∷ slots) h =
     from (command_in slot) where
-      from : (status : Option ℕ) → data_from terminal memory c count transmitter status (take m slots) ≡ data_from terminal memory c count transmitter status slots
+      from : (status : Option ℕ) → data_from count transmitter status (take m slots) ≡ data_from count transmitter status slots
       from None = refl
       from (Some status) = rw (data-short count m slots h) refl
-relayed-short terminal memory c count transmitter m (suc rest) (slot ∷ slots) h = refl
+relayed-short count transmitter m (suc rest) (slot ∷ slots) h = refl
 
 pub promise-short : (terminal : TerminalData) (memory : Memory) (c : Channel) (command transmitter m rest : ℕ) (slots : List (Option Word)) → word_count command < m →
     keep_promise terminal memory c command transmitter (take (suc m) slots) rest ≡ keep_promise terminal memory c command transmitter slots rest
 promise-short terminal memory c command transmitter m rest slots h =
-    ap (kept terminal memory c command) (relayed-short terminal memory c (word_count command) transmitter m rest slots h)
+    ap (kept terminal memory c command) (relayed-short (word_count command) transmitter m rest slots h)
 
 pub count-fits : (command : ℕ) → word_count command ≤ 32
 count-fits command = grind (arith, nat_tests)
