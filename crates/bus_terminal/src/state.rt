@@ -6,7 +6,7 @@ ghost use Rattle.bus_model.specs.Memory.{TimedLoad};
 ghost use Rattle.bus_model.specs.Orders.{due_after};
 ghost use Rattle.bus_model.specs.Hearing.{Moment};
 ghost use Rattle.bus_model.specs.Standing.{Standing, Handled as Order};
-ghost use Rattle.bus_model.specs.Terminal.{order_now, marked_by};
+ghost use Rattle.bus_model.specs.Terminal.{order_now, marked_by, accepted_on};
 ghost use Rattle.bus_terminal.specs.Handling as handling;
 ghost use Rattle.bus_terminal.specs.Holding.{EarsStand};
 ghost use Rattle.bus_terminal.specs.Stands as stands;
@@ -148,7 +148,7 @@ pub(crate) fn act(common: Common, now: u64, handled: Handled, may_accept: bool) 
         stands.CommonStands LAG terminal loads before past s → order_now LAG terminal (moment ∷ past) s ≡ Some order →
         handling.HandledIs handled order s → common.plan ≡ before.plan → common.memory ≡ before.memory →
         ((after : Standing) → EarsStand LAG terminal.address common.ears (moment ∷ past) (marked_by LAG terminal moment past s after)) →
-        now ≡ length past → moment.may ≡ may_accept → stands.NextStands LAG terminal loads result past moment s }
+        now ≡ length past → moment.may ≡ may_accept → stands.NextStands LAG terminal loads result past moment s None }
 {
     let mut common = common;
     let mut performed = perform(&common.plan, &mut common.memory, handled, may_accept);
@@ -167,7 +167,8 @@ impl TerminalState {
         requires { (terminal : TerminalData) × (loads : List TimedLoad) × (past : List Moment) × (s : Standing) × stands.StateStands LAG terminal loads self past s
             × (length past ≡ now.0) × (now.0 < 2 ^ 60) }
         ensures { (terminal : TerminalData) (loads : List TimedLoad) (past : List Moment) (s : Standing) → stands.StateStands LAG terminal loads self past s →
-            length past ≡ now.0 → stands.NextStands LAG terminal loads result past (record { shown = heard; may = may_accept }) s }
+            length past ≡ now.0 → stands.NextStands LAG terminal loads result past (record { shown = heard; may = may_accept }) s
+            (accepted_on LAG terminal loads (record { shown = heard; may = may_accept }) past s) }
     {
         match self {
             TerminalState::Listening(state) => state.hear(now, heard, may_accept),

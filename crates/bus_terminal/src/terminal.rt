@@ -5,8 +5,8 @@ ghost use Rattle.bus_formats.specs.Plans.{TerminalData};
 ghost use Rattle.bus_model.specs.Memory.{TimedLoad, first_memory, clear_registers, no_blocks, loaded};
 ghost use Rattle.bus_model.specs.Hearing.{Hearing, Moment};
 ghost use Rattle.bus_model.specs.Standing.{Standing};
-ghost use Rattle.bus_model.specs.Terminal.{took_now, drives, memory_after, standing, order_now};
-ghost use Rattle.bus_terminal.specs.Stands.{TerminalFits, StateStands, NextStands, TakenIs, channel_of};
+ghost use Rattle.bus_model.specs.Terminal.{took_now, accepted_now, accepted_on, drives, memory_after, standing, order_now};
+ghost use Rattle.bus_terminal.specs.Stands.{TerminalFits, StateStands, NextStands, TakenIs, AcceptedIs, channel_of};
 ghost use Rattle.bus_terminal.specs.TerminalStands.{TerminalStands, HasLoads};
 ghost use Rattle.bus_terminal.specs.Quiet.{quiet_moments};
 ghost use Rattle.bus_terminal.specs.Stands.{AreMade, RestsFrom};
@@ -49,7 +49,8 @@ impl Terminal {
     }
 
     /// Hears what both channels show in the tick `now`, which follows the last tick heard. `may_accept` says that the terminal's station has
-    /// items left.
+    /// items left. It tells the block that it took whole in this tick, or else that it accepted control: the end of an answer with acceptance,
+    /// as long as a status word at least, is known in this tick (MIL-STD-1553B 4.3.3.5.1.7.1).
     pub fn hear(&mut self, now: Tick, heard: Pair, may_accept: bool) -> TerminalEvent
         requires { (plan : TerminalData) × (loads : List TimedLoad) × (hearing : Hearing) × TerminalStands LAG plan loads self.old hearing
             × (length hearing.ticks ≡ now.0) × (now.0 < 2 ^ 60) }
@@ -60,6 +61,8 @@ impl Terminal {
             (channel_of (standing LAG plan loads hearing.memory hearing.ticks)
             (order_now LAG plan (record { shown = heard; may = may_accept } ∷ hearing.ticks) (standing LAG plan loads hearing.memory hearing.ticks)))
             (took_now LAG plan loads (record hearing { ticks = record { shown = heard; may = may_accept } ∷ hearing.ticks })) }
+        ensures accepted { (plan : TerminalData) (loads : List TimedLoad) (hearing : Hearing) → TerminalStands LAG plan loads self.old hearing → length hearing.ticks ≡ now.0 →
+            AcceptedIs result (accepted_now LAG plan loads (record hearing { ticks = record { shown = heard; may = may_accept } ∷ hearing.ticks })) }
     {
         self.step(now, heard, may_accept)
     }
@@ -119,7 +122,8 @@ impl Terminal {
         requires { (terminal : TerminalData) × (loads : List TimedLoad) × (past : List Moment) × (s : Standing) × StateStands LAG terminal loads self.old.state past s
             × (length past ≡ now.0) × (now.0 < 2 ^ 60) }
         ensures { (terminal : TerminalData) (loads : List TimedLoad) (past : List Moment) (s : Standing) → StateStands LAG terminal loads self.old.state past s →
-            length past ≡ now.0 → NextStands LAG terminal loads (record { state = self.new.state; event = result }) past (record { shown = heard; may = may_accept }) s }
+            length past ≡ now.0 → NextStands LAG terminal loads (record { state = self.new.state; event = result }) past (record { shown = heard; may = may_accept }) s
+            (accepted_on LAG terminal loads (record { shown = heard; may = may_accept }) past s) }
     {
         core::mem::replace_with(
             &mut self.state,
