@@ -17,3 +17,4 @@ pub mod Accepting
 pub mod Quiet
 pub mod Shows
 pub mod Waking
+pub mod Loading

@@ -191,6 +191,22 @@ impl TerminalState {
         }
     }
 
+    /// Makes the transmit block of a subaddress, 1 to 29, exactly the words, 1 to 32.
+    pub(crate) fn load(&mut self, sub: u8, words: &[u16])
+        requires first { 1 ≤ sub }
+        requires last { sub ≤ 29 }
+        requires some { 1 ≤ length words.now }
+        requires fits { length words.now ≤ 32 }
+        ensures { self.new ≡ shown.loaded_state self.old sub words.now }
+    {
+        match self {
+            TerminalState::Listening(state) => state.common.memory.load(sub, words),
+            TerminalState::Promised(state) => state.common.memory.load(sub, words),
+            TerminalState::Owing(state) => state.common.memory.load(sub, words),
+            TerminalState::Answering(state) => state.common.memory.load(sub, words),
+        }
+    }
+
     pub(crate) fn drive(&self) -> Drive
         ensures { result ≡ shown.drive_told self.now }
     {

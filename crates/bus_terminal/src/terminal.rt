@@ -1,5 +1,5 @@
 //! The terminal that the layer above uses.
-ghost use Rattle.std.specs.Prelude.{◌≡◌, ◌<◌, ◌^◌, ◌∷◌, [], ℕ, List, length, false};
+ghost use Rattle.std.specs.Prelude.{◌≡◌, ◌<◌, ◌^◌, ◌≤◌, ◌∷◌, ◌++◌, [], ℕ, List, length, false};
 ghost use Rattle.bus_line.specs.declared.cutter.TheConstants.{LAG};
 ghost use Rattle.bus_formats.specs.Plans.{TerminalData};
 ghost use Rattle.bus_model.specs.Memory.{TimedLoad, first_memory, clear_registers, no_blocks, loaded};
@@ -106,6 +106,24 @@ impl Terminal {
             TerminalStands LAG plan loads self.new (record { memory = memory_after LAG plan loads hearing; ticks = quiet_moments n }) }
     {
         self.rest()
+    }
+
+    /// Makes the transmit block of a subaddress, 1 to 29, exactly the words, 1 to 32: a timed load at the last tick heard, or at once where
+    /// none was heard.
+    pub fn load(&mut self, sub: u8, words: &[u16])
+        requires first { 1 ≤ sub }
+        requires last { sub ≤ 29 }
+        requires some { 1 ≤ length words.now }
+        requires fits { length words.now ≤ 32 }
+        ensures timed { (plan : TerminalData) (loads : List TimedLoad) (memory : kept.Memory) (now : Moment) (past : List Moment) →
+            TerminalStands LAG plan loads self.old (record { memory = memory; ticks = now ∷ past }) →
+            TerminalStands LAG plan (loads ++ record { tick = length past; address = plan.address; sub = sub; words = words.now } ∷ []) self.new
+            (record { memory = memory; ticks = now ∷ past }) }
+        ensures at_once { (plan : TerminalData) (loads : List TimedLoad) (memory : kept.Memory) →
+            TerminalStands LAG plan loads self.old (record { memory = memory; ticks = [] }) →
+            TerminalStands LAG plan loads self.new (record { memory = kept.load_block memory sub words.now; ticks = [] }) }
+    {
+        self.state.load(sub, words);
     }
 
     fn rest(&mut self)
