@@ -1,17 +1,16 @@
 -- An order that is handled leaves a state that stands.
-use Rattle.std.proofs.Common.{◌≡◌, ℕ, zero, suc, ◌+◌, ◌-◌, ◌<◌, ◌≤◌, Bool, true, false, List, [], ◌∷◌, length, Option, Some, None, refl, sym, ap, ◌∙◌, subst, arith, inl, inr, ◌⊎◌}
+use Rattle.std.proofs.Common.{◌≡◌, ℕ, suc, ◌+◌, ◌≤◌, Bool, List, ◌∷◌, length, Some, refl, sym, ap, ◌∙◌, arith, inl, inr, ◌⊎◌}
 use Rattle.bus_base.specs.declared.samples.Channel.{Channel}
-use Rattle.bus_base.specs.declared.samples.Part.{Part}
-use Rattle.bus_line.specs.Past.{quiet, ended_now, end_of}
+use Rattle.bus_line.specs.Past.{quiet}
 use Rattle.bus_formats.specs.Plans.{TerminalData}
 use Rattle.bus_model.specs.Memory.{Memory, TimedLoad, with_loads}
-use Rattle.bus_model.specs.Orders.{Obeyed, Duty, free, unkept}
+use Rattle.bus_model.specs.Orders.{Obeyed, free}
 use Rattle.bus_model.specs.Hearing.{Moment, heard_on}
 use Rattle.bus_model.specs.Standing.{Standing, obeys, settles, runs_out, Handled, superseded, is_owed}
 use Rattle.bus_model.specs.Terminal.{done_by, after_order, marked_by, order_now}
 use Rattle.bus_terminal.specs.Holding.{EarsStand}
 use Rattle.bus_terminal.specs.Handling.{PerformedIs}
-use Rattle.bus_terminal.specs.Stands.{TerminalFits, AreMade, CommonStands, StateStands}
+use Rattle.bus_terminal.specs.Stands.{CommonStands, StateStands}
 use Rattle.bus_terminal.specs.Steps.{stands_told}
 use Rattle.bus_terminal.specs.declared.common.Common.{Common}
 use Rattle.bus_terminal.specs.declared.common.Ears.{Ears}

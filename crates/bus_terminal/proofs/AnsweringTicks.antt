@@ -1,7 +1,7 @@
 -- A terminal that sends an answer hears a tick.
-use Rattle.std.proofs.Common.{◌≡◌, ℕ, zero, suc, ◌+◌, ◌^◌, ◌<◌, ◌≤◌, Bool, true, false, not, ◌&&◌, ◌||◌, ◌==◌, nat_lt, List, [], ◌∷◌, length, Option, Some, None, refl, sym, ap, ◌∙◌, subst, arith, inl, inr, ◌⊎◌, if◌then◌else◌}
+use Rattle.std.proofs.Common.{◌≡◌, ℕ, suc, ◌+◌, Bool, true, false, not, ◌&&◌, ◌||◌, ◌==◌, nat_lt, List, ◌∷◌, length, Option, Some, None, refl, sym, ap, ◌∙◌, subst, arith, inl, inr, if◌then◌else◌}
 use Rattle.std.specs.Prelude.{is_some, is_none}
-use Rattle.std.proofs.lemmas.Bool.{lt-ltb, le-ltb, eqb-true, eq-eqb, cases_Bool}
+use Rattle.std.proofs.lemmas.Bool.{le-ltb, eqb-true, eq-eqb, cases_Bool}
 use Rattle.std.proofs.lemmas.Bool.Decides.{nat_tests}
 use Rattle.bus_base.specs.Samples.{is_quiet, same_channel, sample_on}
 use Rattle.bus_base.specs.declared.samples.Channel.{Channel}
@@ -9,23 +9,22 @@ use Rattle.bus_base.specs.declared.samples.Channel.TheVariants.{A, B}
 use Rattle.bus_line.specs.Past.{heard_within, end_since}
 use Rattle.bus_formats.specs.Plans.{TerminalData}
 use Rattle.bus_model.specs.Memory.{TimedLoad}
-use Rattle.bus_model.specs.Orders.{Taken, Duty, free, owes, promises, due_after}
+use Rattle.bus_model.specs.Orders.{Taken, Duty, due_after}
 use Rattle.bus_model.specs.Hearing.{Moment, heard_on}
 use Rattle.bus_model.specs.Standing.{Standing, superseded, ignored_from, mark_on, is_owed}
-use Rattle.bus_model.specs.Terminal.{marked_by, order_now, given_up, is_over, begins, sent_on}
+use Rattle.bus_model.specs.Terminal.{marked_by, order_now, given_up, is_over, begins}
 use Rattle.bus_terminal.specs.Holding.{EarsStand, Listens, begins_on}
-use Rattle.bus_terminal.specs.Stands.{CommonStands, AnsweringStands, NextStands, StateStands, IsSending, TakenIs, rests}
+use Rattle.bus_terminal.specs.Stands.{CommonStands, AnsweringStands, NextStands, StateStands, IsSending, TakenIs, AcceptedIs, rests}
 use Rattle.bus_terminal.specs.Steps.{answering_on, begins_told, accepted_told, accepted_event}
 use Rattle.bus_terminal.specs.declared.common.Common.{Common}
 use Rattle.bus_terminal.specs.declared.state.Sends.{Sends}
 use Rattle.bus_terminal.specs.declared.answering.Answering.{Answering}
-use Rattle.bus_terminal.specs.declared.state.TerminalState.TheVariants as states
 use Rattle.bus_terminal.specs.declared.state.TerminalEvent.{TerminalEvent}
 use Rattle.bus_terminal.specs.declared.state.TerminalNext.{TerminalNext}
 use Rattle.bus_terminal.specs.declared.state.TerminalEvent.TheVariants as events
 use Rattle.bus_terminal.proofs.Heard.{length-heard}
 use Rattle.bus_terminal.proofs.Within.{within-same}
-use Rattle.bus_terminal.proofs.Standing.{by-test, kept-when, rests-superseded}
+use Rattle.bus_terminal.proofs.Standing.{kept-when, rests-superseded}
 use Rattle.bus_terminal.proofs.OwingTicks.{kept-parts}
 use Rattle.bus_terminal.proofs.Listened.{none-next, common-kept}
 use Rattle.bus_terminal.proofs.Ticks.{sent-of}
@@ -36,11 +35,21 @@ event-still events.Nothing false tick c o h = h
 event-still (events.Took delivery) accepted tick c o h = h
 event-still events.Accepted accepted tick c o h = h
 
+event-accepted : (e : TerminalEvent) (accepted : Bool) (end : Option ℕ) → accepted ≡ is_some end → AcceptedIs e None → AcceptedIs (accepted_event e accepted) end
+event-accepted events.Nothing true end is h = sym is
+event-accepted events.Nothing false None is h = refl
+event-accepted events.Nothing false (Some end) is h = cc
+event-accepted (events.Took delivery) accepted end is h = tt
+event-accepted events.Accepted accepted end is h = cc
+
 -- acceptance changes nothing else
-pub accepted-next : (k : ℕ) (terminal : TerminalData) (loads : List TimedLoad) (next : TerminalNext) (past : List Moment) (now : Moment) (s : Standing) (accepted : Bool) →
-    NextStands k terminal loads next past now s → NextStands k terminal loads (accepted_told next accepted) past now s
-accepted-next k terminal loads next past now s accepted h =
-    record { state = h.state; taken = event-still next.event accepted (length past) _ _ h.taken }
+pub accepted-next : (k : ℕ) (terminal : TerminalData) (loads : List TimedLoad) (next : TerminalNext) (past : List Moment) (now : Moment) (s : Standing) (accepted : Bool) (end : Option ℕ) →
+    accepted ≡ is_some end → NextStands k terminal loads next past now s None → NextStands k terminal loads (accepted_told next accepted) past now s end
+accepted-next k terminal loads next past now s accepted end is h = record {
+  state = h.state;
+  taken = event-still next.event accepted (length past) _ _ h.taken;
+  accepted = event-accepted next.event accepted end is h.accepted;
+}
 
 -- the answer begins in the tick in which nothing of it was sent
 begins-is : (k : ℕ) (terminal : TerminalData) (loads : List TimedLoad) (state : Answering) (past : List Moment) (s : Standing) → AnsweringStands k terminal loads state past s →
@@ -140,13 +149,14 @@ answering-state k terminal loads state common past now s sent newer ignored st p
       none true = refl
       none false = refl
 
-pub answering-none : (k : ℕ) (terminal : TerminalData) (loads : List TimedLoad) (state : Answering) (common : Common) (past : List Moment) (now : Moment) (s : Standing) (sent : ℕ) (newer ignored accepted : Bool) →
+pub answering-none : (k : ℕ) (terminal : TerminalData) (loads : List TimedLoad) (state : Answering) (common : Common) (past : List Moment) (now : Moment) (s : Standing) (sent : ℕ) (newer ignored accepted : Bool) (end : Option ℕ) →
+    accepted ≡ is_some end →
     AnsweringStands k terminal loads state past s → order_now k terminal (now ∷ past) s ≡ None → common.plan ≡ state.common.plan → common.memory ≡ state.common.memory →
     EarsStand k terminal.address common.ears (now ∷ past) (marked_by k terminal now past s s) → sent ≡ suc state.sent →
     newer ≡ superseded k (marked_by k terminal now past s s) →
     ignored ≡ ignored_from k (heard_on state.sends.channel (now ∷ past)) (mark_on (marked_by k terminal now past s s).sent state.sends.channel) →
-    NextStands k terminal loads (accepted_told (record { state = answering_on common state.sends sent newer ignored; event = events.Nothing }) accepted) past now s
-answering-none k terminal loads state common past now s sent newer ignored accepted st none plan memory hear more newer_is ignored_is =
-    accepted-next k terminal loads (record { state = answering_on common state.sends sent newer ignored; event = events.Nothing }) past now s accepted
+    NextStands k terminal loads (accepted_told (record { state = answering_on common state.sends sent newer ignored; event = events.Nothing }) accepted) past now s end
+answering-none k terminal loads state common past now s sent newer ignored accepted end is st none plan memory hear more newer_is ignored_is =
+    accepted-next k terminal loads (record { state = answering_on common state.sends sent newer ignored; event = events.Nothing }) past now s accepted end is
     (none-next k terminal loads (answering_on common state.sends sent newer ignored) past now s none
     (answering-state k terminal loads state common past now s sent newer ignored st plan memory hear more newer_is ignored_is))

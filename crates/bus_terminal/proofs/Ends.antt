@@ -1,5 +1,5 @@
 -- Where the burst of an order ended.
-use Rattle.std.proofs.Common.{◌≡◌, ℕ, zero, suc, ◌+◌, ◌-◌, ◌<◌, ◌≤◌, Bool, true, false, not, ◌&&◌, ◌||◌, ◌==◌, nat_lt, nat_le, List, [], ◌∷◌, length, Option, Some, None, refl, sym, ap, ◌∙◌, subst, arith, inl, inr, ◌⊎◌, if◌then◌else◌}
+use Rattle.std.proofs.Common.{◌≡◌, ℕ, suc, ◌+◌, Bool, true, false, not, ◌&&◌, ◌==◌, nat_lt, nat_le, List, ◌∷◌, length, Option, Some, None, refl, ap, ◌∙◌, subst, arith, if◌then◌else◌}
 use Rattle.std.specs.Prelude.{⊤}
 use Rattle.std.specs.Option.{option_or}
 use Rattle.std.proofs.lemmas.Bool.Decides.{nat_tests}
@@ -12,10 +12,10 @@ use Rattle.bus_line.specs.Bursts.{IsEndedNow}
 use Rattle.bus_line.proofs.LookUpLaws.{ended-known}
 use Rattle.bus_formats.specs.Plans.{TerminalData}
 use Rattle.bus_model.specs.Waits.{relay_wait}
-use Rattle.bus_model.specs.Orders.{Order, last_order, Obeyed, free}
+use Rattle.bus_model.specs.Orders.{Order, last_order}
 use Rattle.bus_model.specs.Hearing.{Moment, heard_on}
 use Rattle.bus_model.specs.Standing.{Standing, obeys, settles, runs_out, Handled, ignored_from, mark_on, outrun, superseded, promised_on, is_promise}
-use Rattle.bus_model.specs.Terminal.{order_by, order_of, order_on, order_now, running_out, after_order}
+use Rattle.bus_model.specs.Terminal.{order_by, order_of, order_on, order_now}
 use Rattle.bus_terminal.proofs.Standing.{by-test}
 
 -- the burst of an order ended in the newest tick, on the order's channel

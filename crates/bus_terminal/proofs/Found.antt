@@ -1,25 +1,24 @@
 -- What the code finds to be handled is what is handled by the definition.
-use Rattle.std.proofs.Common.{◌≡◌, ℕ, zero, suc, ◌+◌, ◌<◌, ◌≤◌, Bool, true, false, not, ◌&&◌, ◌==◌, nat_le, List, [], ◌∷◌, length, take, Option, Some, None, refl, sym, ap, ◌∙◌, subst, arith, if◌then◌else◌}
+use Rattle.std.proofs.Common.{◌≡◌, ℕ, ◌+◌, Bool, true, false, not, ◌&&◌, nat_le, List, ◌∷◌, take, Option, Some, None, refl, sym, ap, ◌∙◌, subst, if◌then◌else◌}
 use Rattle.std.specs.Option.{option_or}
-use Rattle.std.proofs.lemmas.Bool.Decides.{nat_tests}
 use Rattle.bus_base.specs.Samples.{same_channel}
 use Rattle.bus_base.specs.declared.samples.Channel.{Channel}
 use Rattle.bus_base.specs.declared.samples.Channel.TheVariants.{A, B}
 use Rattle.bus_words.specs.declared.word.Word.{Word}
-use Rattle.bus_line.specs.Past.{Burst, ended_now, end_of, rest_of, heard_within}
+use Rattle.bus_line.specs.Past.{Burst, ended_now, end_of, rest_of}
 use Rattle.bus_formats.specs.Plans.{TerminalData}
 use Rattle.bus_ears.specs.Ears.{Holds, IsHeard, IsToldBurst, AreTold}
 use Rattle.bus_ears.specs.declared.ear.Heard.{Heard}
 use Rattle.bus_ears.specs.declared.ear.HeardBurst.{HeardBurst}
 use Rattle.bus_ears.specs.declared.ear.TheConstants.{MOST_SLOTS}
 use Rattle.bus_model.specs.Waits.{relay_wait}
-use Rattle.bus_model.specs.Orders.{Order, last_order}
+use Rattle.bus_model.specs.Orders.{last_order}
 use Rattle.bus_model.specs.Hearing.{Moment, heard_on}
 use Rattle.bus_model.specs.Standing.{Standing, obeys, settles, mark_on, ignored_from, outrun, superseded, promised_on, is_promise}
 use Rattle.bus_model.specs.Standing as standing
 use Rattle.bus_model.specs.Terminal.{order_by, order_of, order_on, order_now, running_out}
 use Rattle.bus_terminal.specs.Holding.{AreListened}
-use Rattle.bus_terminal.specs.Handling.{settles_told, settles_with, order_with, order_from, order_told, out_with, handled_told, IsWaiting, Awaits, IsCommand, IsSettled, HandledIs, AreHandled}
+use Rattle.bus_terminal.specs.Handling.{settles_with, order_with, order_from, order_told, out_with, handled_told, IsWaiting, Awaits, AreHandled}
 use Rattle.bus_terminal.specs.declared.common.Listened.{Listened}
 use Rattle.bus_terminal.specs.declared.handling.Waiting.{Waiting}
 use Rattle.bus_terminal.specs.declared.handling.Handled.{Handled}

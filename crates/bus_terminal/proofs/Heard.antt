@@ -1,5 +1,5 @@
 -- What the two ears of a terminal stand for, with one tick more.
-use Rattle.std.proofs.Common.{◌≡◌, ℕ, suc, ◌+◌, ◌<◌, ◌≤◌, Bool, true, false, ◌&&◌, List, [], ◌∷◌, length, Option, Some, None, refl, sym, ap, ◌∙◌, subst, arith}
+use Rattle.std.proofs.Common.{◌≡◌, ℕ, suc, Bool, ◌&&◌, List, [], ◌∷◌, length, refl, ap}
 use Rattle.bus_base.specs.Samples.{same_channel, sample_on}
 use Rattle.bus_base.specs.declared.samples.Channel.{Channel}
 use Rattle.bus_base.specs.declared.samples.Pair.{Pair}

@@ -13,6 +13,8 @@ pub mod Listened
 pub mod OwingTicks
 pub mod PromisedTicks
 pub mod AnsweringTicks
+pub mod Accepting
 pub mod Quiet
 pub mod Shows
 pub mod Waking
+pub mod Loading

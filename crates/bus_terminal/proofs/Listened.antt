@@ -1,16 +1,14 @@
 -- A terminal that owes nothing hears a tick.
-use Rattle.std.proofs.Common.{◌≡◌, ℕ, zero, suc, ◌+◌, ◌^◌, ◌<◌, ◌≤◌, Bool, true, false, List, [], ◌∷◌, length, Option, Some, None, refl, sym, ap, ◌∙◌, subst, arith}
+use Rattle.std.proofs.Common.{◌≡◌, ℕ, ◌^◌, ◌<◌, false, List, ◌∷◌, length, Some, None, refl, sym, subst, arith}
 use Rattle.bus_formats.specs.Plans.{TerminalData}
 use Rattle.bus_model.specs.Memory.{Memory, TimedLoad}
-use Rattle.bus_model.specs.Orders as orders
 use Rattle.bus_model.specs.Hearing.{Moment}
 use Rattle.bus_model.specs.Standing.{Standing, Handled}
-use Rattle.bus_model.specs.Terminal.{marked_by, order_now, after_tick, taken_by}
+use Rattle.bus_model.specs.Terminal.{marked_by, order_now}
 use Rattle.bus_terminal.specs.Holding.{EarsStand, AreListened}
 use Rattle.bus_terminal.specs.Handling.{HandledIs, AreHandled, EndFits, handled_told, Awaits}
-use Rattle.bus_terminal.specs.Stands.{CommonStands, ListeningStands, NextStands, StateStands, TakenIs, channel_of, rests}
+use Rattle.bus_terminal.specs.Stands.{CommonStands, ListeningStands, NextStands, StateStands}
 use Rattle.bus_terminal.specs.declared.common.Common.{Common}
-use Rattle.bus_terminal.specs.declared.common.Ears.{Ears}
 use Rattle.bus_terminal.specs.declared.common.Listened.{Listened}
 use Rattle.bus_terminal.specs.declared.handling.Handled.{Handled as HandledTold}
 use Rattle.bus_terminal.specs.declared.listening.Listening.{Listening}
@@ -40,10 +38,11 @@ fits-of k terminal loads common past now s handled order n st here small is hand
 -- a state after a tick without an order, by its parts
 pub none-next : (k : ℕ) (terminal : TerminalData) (loads : List TimedLoad) (state : TerminalState) (past : List Moment) (now : Moment) (s : Standing) →
     order_now k terminal (now ∷ past) s ≡ None → StateStands k terminal loads state (now ∷ past) (marked_by k terminal now past s s) →
-    NextStands k terminal loads (record { state = state; event = events.Nothing }) past now s
+    NextStands k terminal loads (record { state = state; event = events.Nothing }) past now s None
 none-next k terminal loads state past now s none stands = record {
   state = subst (λ (left : Standing). StateStands k terminal loads state (now ∷ past) left) (sym (tick-none k terminal loads past now s none)) stands;
   taken = taken-none k terminal loads past now s none;
+  accepted = refl;
 }
 
 -- what is common, where plan and memory are as before
@@ -61,7 +60,7 @@ common-kept k terminal loads before common past now s st plan memory hear =
 pub rests-none : (k : ℕ) (terminal : TerminalData) (loads : List TimedLoad) (state : Listening) (common : Common) (past : List Moment) (now : Moment) (s : Standing) →
     ListeningStands k terminal loads state past s → order_now k terminal (now ∷ past) s ≡ None → common.plan ≡ state.common.plan → common.memory ≡ state.common.memory →
     EarsStand k terminal.address common.ears (now ∷ past) (marked_by k terminal now past s s) →
-    NextStands k terminal loads (record { state = states.Listening record { common = common }; event = events.Nothing }) past now s
+    NextStands k terminal loads (record { state = states.Listening record { common = common }; event = events.Nothing }) past now s None
 rests-none k terminal loads state common past now s st none plan memory hear =
     none-next k terminal loads (states.Listening record { common = common }) past now s none record {
       common = common-kept k terminal loads state.common common past now s st.common plan memory hear;

@@ -1,14 +1,13 @@
 -- The loads of a terminal, and that orders leave the transmit blocks alone.
-use Rattle.std.proofs.Common.{◌≡◌, ℕ, zero, suc, ◌+◌, ◌<◌, ◌≤◌, Bool, true, false, not, ◌&&◌, ◌||◌, ◌==◌, nat_lt, List, [], ◌∷◌, length, Option, Some, None, refl, sym, ap, ◌∙◌, arith, inl, inr, ◌⊎◌, if◌then◌else◌}
+use Rattle.std.proofs.Common.{◌≡◌, ℕ, suc, ◌<◌, Bool, true, false, ◌==◌, nat_lt, List, [], ◌∷◌, Option, Some, None, refl, sym, ap, ◌∙◌, arith, inl, inr, if◌then◌else◌}
 use Rattle.std.proofs.lemmas.Bool.{lt-ltb, eqb-true, cases_Bool}
-use Rattle.std.proofs.lemmas.Bool.Decides.{nat_tests}
 use Rattle.bus_base.specs.declared.samples.Channel.{Channel}
 use Rattle.bus_words.specs.declared.word.Word.{Word}
 use Rattle.bus_formats.specs.Plans.{TerminalData}
 use Rattle.bus_formats.specs.declared.log.Registers.{Registers}
-use Rattle.bus_model.specs.Commands.{Tail, unexpected, relay_from, carries, tail_of, has_code, is_illegal}
-use Rattle.bus_model.specs.Memory.{Memory, TimedLoad, with_loads, load_due, load_block, receive_block}
-use Rattle.bus_model.specs.Orders.{marked, mode_effect, block_taken, Duty, Taken, Obeyed, leaves, after_taking, obey, obey_tail, obey_data, answered, carried_out, kept, keep_promise, relayed, unkept, promises, owes, free}
+use Rattle.bus_model.specs.Commands.{Tail, unexpected, relay_from, carries, has_code, is_illegal}
+use Rattle.bus_model.specs.Memory.{Memory, TimedLoad, with_loads, load_due, load_block}
+use Rattle.bus_model.specs.Orders.{marked, mode_effect, block_taken, Duty, Taken, Obeyed, after_taking, obey_tail, obey_data, kept, promises, owes, free}
 use Rattle.bus_model.specs.Standing.{Standing, obeys, settles, runs_out, Handled}
 use Rattle.bus_model.specs.Terminal.{done_by, kept_by}
 use Rattle.bus_terminal.specs.Stands.{AreMade}

@@ -1,8 +1,8 @@
 -- What an order that is handled leaves, and what is told of it, in the words of the definition.
-use Rattle.std.proofs.Common.{◌≡◌, ℕ, zero, suc, ◌+◌, ◌<◌, ◌≤◌, Bool, true, false, List, [], ◌∷◌, length, Option, Some, None, refl, sym, ap, ◌∙◌, subst, arith}
+use Rattle.std.proofs.Common.{◌≡◌, ℕ, suc, Bool, List, ◌∷◌, length, Option, Some, None, refl, sym, ap, ◌∙◌, subst}
 use Rattle.bus_base.specs.declared.samples.Channel.{Channel}
 use Rattle.bus_formats.specs.Plans.{TerminalData}
-use Rattle.bus_model.specs.Memory.{Memory, TimedLoad, with_loads}
+use Rattle.bus_model.specs.Memory.{Memory, TimedLoad}
 use Rattle.bus_model.specs.Orders.{Obeyed}
 use Rattle.bus_model.specs.Orders as orders
 use Rattle.bus_model.specs.Hearing.{Moment}
@@ -12,7 +12,7 @@ use Rattle.bus_orders.specs.Meant.{taken_meant}
 use Rattle.bus_orders.specs.declared.done.Taken.{Taken}
 use Rattle.bus_terminal.specs.Holding.{EarsStand}
 use Rattle.bus_terminal.specs.Handling.{PerformedIs}
-use Rattle.bus_terminal.specs.Stands.{CommonStands, StateStands, NextStands, TakenIs, channel_of}
+use Rattle.bus_terminal.specs.Stands.{CommonStands, StateStands, NextStands, TakenIs, AcceptedIs, channel_of}
 use Rattle.bus_terminal.specs.Steps.{stands_told, event_told}
 use Rattle.bus_terminal.specs.declared.common.Common.{Common}
 use Rattle.bus_terminal.specs.declared.handling.Performed.{Performed}
@@ -39,6 +39,11 @@ event-taken : (tick : ℕ) (c : Channel) (t : Option Taken) (o : Option orders.T
 event-taken tick c None o e = sym e
 event-taken tick c (Some taken) o e = (refl, refl, sym e)
 
+-- an order alone tells nothing of acceptance
+orders-silent : (tick : ℕ) (c : Channel) (t : Option Taken) → AcceptedIs (event_told tick c t) None
+orders-silent tick c None = refl
+orders-silent tick c (Some taken) = tt
+
 order-channel : (s : Standing) (order : Handled) (o : Obeyed) → (after_order s order o).channel ≡ channel_of s (Some order)
 order-channel s (obeys c end order rest) o = refl
 order-channel s (settles end slots rest) o = refl
@@ -52,7 +57,7 @@ pub next-stands : (k : ℕ) (terminal : TerminalData) (loads : List TimedLoad) (
     ((left : Standing) → EarsStand k terminal.address common.ears (now ∷ past) left → left.channel ≡ performed.channel → left.end ≡ performed.end → b ≡ superseded k left) →
     state ≡ stands_told (record { plan = common.plan; memory = memory; ears = common.ears }) b n performed.channel performed.end performed.part performed.done.duty →
     event ≡ event_told tick performed.channel performed.done.taken →
-    NextStands k terminal loads (record { state = state; event = event }) past now s
+    NextStands k terminal loads (record { state = state; event = event }) past now s None
 next-stands k terminal loads before common memory past now s order performed b may n tick state event st is plan kept hear here may_is after_now does newer state_is event_is =
     let o : Obeyed = done_by k terminal s before.memory now.may order in
     let same : done_by k common.plan s common.memory may order ≡ o =
@@ -80,4 +85,5 @@ next-stands k terminal loads before common memory past now s order performed b m
       taken = subst (λ (t : Option orders.Taken). TakenIs event (length past) (channel_of s (order_now k terminal (now ∷ past) s)) t)
           (sym (taken-is k terminal loads before past now s order st is))
           (subst (λ (e : TerminalEvent). TakenIs e (length past) (channel_of s (order_now k terminal (now ∷ past) s)) o.taken) (sym event_is) told_here);
+      accepted = subst (λ (e : TerminalEvent). AcceptedIs e None) (sym event_is) (orders-silent tick performed.channel performed.done.taken);
     }

@@ -1,31 +1,27 @@
 -- A terminal that owes an answer, or sends one, hears a tick.
-use Rattle.std.proofs.Common.{◌≡◌, ℕ, zero, suc, ◌+◌, ◌^◌, ◌<◌, ◌≤◌, Bool, true, false, not, ◌&&◌, ◌||◌, ◌==◌, nat_lt, List, [], ◌∷◌, length, Option, Some, None, refl, sym, ap, ◌∙◌, subst, arith, inl, inr, ◌⊎◌, if◌then◌else◌}
-use Rattle.std.specs.Prelude.{is_some, is_none}
-use Rattle.std.proofs.lemmas.Bool.{lt-ltb, le-ltb}
+use Rattle.std.proofs.Common.{◌≡◌, ℕ, suc, ◌<◌, ◌≤◌, Bool, true, false, not, ◌&&◌, ◌||◌, ◌==◌, nat_lt, List, ◌∷◌, length, None, refl, sym, ap, ◌∙◌, subst, arith}
+use Rattle.std.proofs.lemmas.Bool.{lt-ltb}
 use Rattle.std.proofs.lemmas.Bool.Decides.{nat_tests}
 use Rattle.bus_base.specs.Samples.{is_quiet, same_channel, sample_on}
 use Rattle.bus_base.specs.declared.samples.Channel.{Channel}
-use Rattle.bus_line.specs.Past.{quiet, heard_within, end_since}
-use Rattle.bus_line.proofs.EndLaws.{end_since-early}
+use Rattle.bus_line.specs.Past.{heard_within}
 use Rattle.bus_formats.specs.Plans.{TerminalData}
 use Rattle.bus_model.specs.Memory.{TimedLoad}
-use Rattle.bus_model.specs.Orders.{Duty, free, owes, promises, due_after}
+use Rattle.bus_model.specs.Orders.{Duty, due_after}
 use Rattle.bus_model.specs.Hearing.{Moment, heard_on}
-use Rattle.bus_model.specs.Standing.{Standing, superseded, is_owed, is_promise, promised_on}
+use Rattle.bus_model.specs.Standing.{Standing, superseded, is_owed, is_promise}
 use Rattle.bus_model.specs.Terminal.{marked_by, order_now, given_up, is_over, begins}
-use Rattle.bus_terminal.specs.Holding.{EarsStand, Listens, begins_on}
+use Rattle.bus_terminal.specs.Holding.{EarsStand, Listens}
 use Rattle.bus_terminal.specs.Handling.{Awaits}
-use Rattle.bus_terminal.specs.Stands.{CommonStands, ListeningStands, OwingStands, AnsweringStands, NextStands, StateStands, IsSending, rests}
-use Rattle.bus_terminal.specs.Steps.{owes_told, owing_on}
+use Rattle.bus_terminal.specs.Stands.{CommonStands, OwingStands, NextStands, StateStands, IsSending, rests}
+use Rattle.bus_terminal.specs.Steps.{owing_on}
 use Rattle.bus_terminal.specs.declared.common.Common.{Common}
 use Rattle.bus_terminal.specs.declared.state.Sends.{Sends}
 use Rattle.bus_terminal.specs.declared.owing.Owing.{Owing}
-use Rattle.bus_terminal.specs.declared.state.TerminalState.{TerminalState}
-use Rattle.bus_terminal.specs.declared.state.TerminalState.TheVariants as states
 use Rattle.bus_terminal.specs.declared.state.TerminalEvent.TheVariants as events
 use Rattle.bus_terminal.proofs.Heard.{length-heard}
-use Rattle.bus_terminal.proofs.Within.{within-more, within-same, within-early, or-true}
-use Rattle.bus_terminal.proofs.Standing.{by-test, owes-stands, kept-when, rests-superseded}
+use Rattle.bus_terminal.proofs.Within.{within-more}
+use Rattle.bus_terminal.proofs.Standing.{owes-stands, kept-when, rests-superseded}
 use Rattle.bus_terminal.proofs.Listened.{none-next, common-kept}
 use Rattle.bus_terminal.proofs.Ticks.{listens-none}
 
@@ -83,7 +79,7 @@ pub owing-none : (k : ℕ) (terminal : TerminalData) (loads : List TimedLoad) (s
     OwingStands k terminal loads state past s → order_now k terminal (now ∷ past) s ≡ None → common.plan ≡ state.common.plan → common.memory ≡ state.common.memory →
     EarsStand k terminal.address common.ears (now ∷ past) (marked_by k terminal now past s s) → n ≡ suc (length past) →
     heard ≡ not (is_quiet (sample_on now.shown state.sends.channel)) → newer ≡ superseded k (marked_by k terminal now past s s) →
-    NextStands k terminal loads (record { state = owing_on common n state.sends heard newer; event = events.Nothing }) past now s
+    NextStands k terminal loads (record { state = owing_on common n state.sends heard newer; event = events.Nothing }) past now s None
 owing-none k terminal loads state common past now s n heard newer st none plan memory hear here heard_is newer_is =
     let left : Standing = marked_by k terminal now past s s in
     let due : ℕ = due_after terminal s.end in

@@ -1,21 +1,19 @@
 -- What the code does of what is handled is what the definition does.
-use Rattle.std.proofs.Common.{◌≡◌, ℕ, zero, suc, ◌+◌, ◌<◌, ◌≤◌, Bool, true, false, List, [], ◌∷◌, length, take, Option, Some, None, refl, sym, ap, ◌∙◌, subst, arith}
+use Rattle.std.proofs.Common.{◌≡◌, ℕ, Bool, true, false, List, take, Option, refl, sym, ap, ◌∙◌, subst, arith}
 use Rattle.bus_base.specs.declared.samples.Channel.{Channel}
 use Rattle.bus_base.specs.declared.samples.Part.TheVariants as parts
-use Rattle.bus_words.specs.Fields.{word_count}
 use Rattle.bus_words.specs.declared.word.Word.{Word}
 use Rattle.bus_formats.specs.Plans.{TerminalData}
 use Rattle.bus_ears.specs.declared.ear.HeardBurst.{HeardBurst}
 use Rattle.bus_ears.specs.declared.ear.TheConstants.{MOST_SLOTS}
-use Rattle.bus_model.specs.Commands.{words_after}
 use Rattle.bus_model.specs.Memory.{Memory}
 use Rattle.bus_model.specs.Orders.{Obeyed, Duty, promises, obey, keep_promise, unkept}
 use Rattle.bus_model.specs.Standing.{Standing, obeys, settles, runs_out}
 use Rattle.bus_model.specs.Standing as standing
-use Rattle.bus_model.specs.Terminal.{done_by, kept_by, after_order}
+use Rattle.bus_model.specs.Terminal.{done_by, kept_by}
 use Rattle.bus_orders.specs.Meant.{IsDone}
 use Rattle.bus_orders.specs.declared.done.Done.{Done}
-use Rattle.bus_terminal.specs.Handling.{IsWaiting, IsCommand, IsSettled, HandledIs, PerformedIs}
+use Rattle.bus_terminal.specs.Handling.{HandledIs, PerformedIs}
 use Rattle.bus_terminal.specs.declared.handling.Waiting.{Waiting}
 use Rattle.bus_terminal.specs.declared.handling.Handled.TheVariants as told
 use Rattle.bus_terminal.proofs.Short.{obey-short, promise-short, words-fit, count-fits}

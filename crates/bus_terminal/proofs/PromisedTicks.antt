@@ -1,7 +1,7 @@
 -- A relay's receiver that made a promise hears a tick.
-use Rattle.std.proofs.Common.{◌≡◌, ℕ, zero, suc, ◌+◌, ◌^◌, ◌<◌, ◌≤◌, Bool, true, false, not, ◌&&◌, ◌||◌, ◌==◌, nat_lt, List, [], ◌∷◌, length, Option, Some, None, refl, sym, ap, ◌∙◌, subst, arith, inl, inr, ◌⊎◌, if◌then◌else◌}
+use Rattle.std.proofs.Common.{◌≡◌, ℕ, suc, ◌+◌, ◌≤◌, Bool, true, false, not, ◌&&◌, ◌||◌, ◌==◌, nat_lt, List, ◌∷◌, length, Option, Some, None, refl, sym, ap, ◌∙◌, arith, inl, inr, if◌then◌else◌}
 use Rattle.std.specs.Option.{option_or}
-use Rattle.std.proofs.lemmas.Bool.{lt-ltb, le-ltb, eqb-true, eq-eqb, cases_Bool}
+use Rattle.std.proofs.lemmas.Bool.{lt-ltb, eqb-true, eq-eqb, cases_Bool}
 use Rattle.std.proofs.lemmas.Bool.Decides.{nat_tests}
 use Rattle.bus_base.specs.Samples.{is_quiet, same_channel, sample_on}
 use Rattle.bus_base.specs.declared.samples.Channel.{Channel}
@@ -10,20 +10,19 @@ use Rattle.bus_line.specs.Past.{heard_within}
 use Rattle.bus_formats.specs.Plans.{TerminalData}
 use Rattle.bus_model.specs.Waits.{relay_wait}
 use Rattle.bus_model.specs.Memory.{TimedLoad}
-use Rattle.bus_model.specs.Orders.{Duty, promises, due_after}
+use Rattle.bus_model.specs.Orders.{due_after}
 use Rattle.bus_model.specs.Hearing.{Moment, heard_on}
-use Rattle.bus_model.specs.Standing.{Standing, superseded, is_owed, is_promise, promised_on, runs_out}
-use Rattle.bus_model.specs.Terminal.{marked_by, order_now, begins, given_up, running_out}
+use Rattle.bus_model.specs.Standing.{Standing, superseded, is_owed, promised_on, runs_out}
+use Rattle.bus_model.specs.Terminal.{marked_by, order_now, given_up, running_out}
 use Rattle.bus_terminal.specs.Holding.{EarsStand, Listens}
 use Rattle.bus_terminal.specs.Handling.{handled_told, Awaits, AreHandled, IsWaiting, out_with}
-use Rattle.bus_terminal.specs.Stands.{CommonStands, PromisedStands, NextStands, StateStands, rests}
+use Rattle.bus_terminal.specs.Stands.{CommonStands, PromisedStands, NextStands, StateStands}
 use Rattle.bus_terminal.specs.Steps.{promised_on_told}
 use Rattle.bus_terminal.specs.declared.common.Common.{Common}
 use Rattle.bus_terminal.specs.declared.handling.Waiting.{Waiting}
 use Rattle.bus_terminal.specs.declared.handling.Handled.{Handled as HandledTold}
 use Rattle.bus_terminal.specs.declared.common.Listened.{Listened}
 use Rattle.bus_terminal.specs.declared.promised.Promised.{Promised}
-use Rattle.bus_terminal.specs.declared.state.TerminalState.TheVariants as states
 use Rattle.bus_terminal.specs.declared.state.TerminalEvent.TheVariants as events
 use Rattle.bus_terminal.proofs.Heard.{length-heard}
 use Rattle.bus_terminal.proofs.Within.{within-more, within-bound}
@@ -110,7 +109,7 @@ pub promised-none : (k : ℕ) (terminal : TerminalData) (loads : List TimedLoad)
     EarsStand k terminal.address common.ears (now ∷ past) (marked_by k terminal now past s s) →
     now_heard ≡ not (is_quiet (sample_on now.shown state.waiting.channel)) → out ≡ ((length past == (state.waiting.end + relay_wait)) && not (state.heard || now_heard)) → out ≡ false →
     newer ≡ superseded k (marked_by k terminal now past s s) →
-    NextStands k terminal loads (record { state = promised_on_told common state.waiting (state.heard || now_heard) newer; event = events.Nothing }) past now s
+    NextStands k terminal loads (record { state = promised_on_told common state.waiting (state.heard || now_heard) newer; event = events.Nothing }) past now s None
 promised-none k terminal loads state common past now s now_heard out newer st none plan memory hear heard_is out_is not_out newer_is =
     none-next k terminal loads (promised_on_told common state.waiting (state.heard || now_heard) newer) past now s none
     (promised-left k terminal loads common (now ∷ past) (marked_by k terminal now past s s) state.waiting (state.heard || now_heard) newer

@@ -1,17 +1,17 @@
 -- A terminal that heard quiet ticks alone.
-use Rattle.std.proofs.Common.{◌≡◌, ℕ, zero, suc, ◌+◌, ◌<◌, ◌≤◌, Bool, true, false, List, [], ◌∷◌, length, Option, Some, None, refl, sym, ap, ◌∙◌, subst, arith}
+use Rattle.std.proofs.Common.{◌≡◌, ℕ, zero, suc, List, ◌∷◌, None, refl, ap, ◌∙◌, subst}
 use Rattle.bus_base.specs.declared.samples.Channel.{Channel}
 use Rattle.bus_base.specs.declared.samples.Channel.TheVariants.{A, B}
 use Rattle.bus_base.specs.declared.samples.Sample.TheVariants.{Quiet}
 use Rattle.bus_line.specs.Past.{quiet_ticks, ended_now, slot_now}
-use Rattle.bus_line.specs.Cutting.{Tells, cut_now}
+use Rattle.bus_line.specs.Cutting.{Tells}
 use Rattle.bus_line.specs.declared.cutter.Cut.{Cut}
 use Rattle.bus_line.proofs.CutNow.{now-idle, cut-tells}
 use Rattle.bus_line.proofs.CutLaws.{rests-alone}
 use Rattle.bus_formats.specs.Plans.{TerminalData}
 use Rattle.bus_model.specs.Memory.{Memory, TimedLoad}
 use Rattle.bus_model.specs.Hearing.{Moment, heard_on}
-use Rattle.bus_model.specs.Standing.{Standing, at_rest}
+use Rattle.bus_model.specs.Standing.{at_rest}
 use Rattle.bus_model.specs.Terminal.{standing, after_tick}
 use Rattle.bus_terminal.specs.Quiet.{quiet_moments, quiet_moment}
 

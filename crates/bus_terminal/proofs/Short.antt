@@ -1,12 +1,12 @@
 -- The first slots after a command decide as all of them do: what is too long stays so.
-use Rattle.std.proofs.Common.{◌≡◌, ℕ, zero, suc, ◌+◌, ◌<◌, ◌≤◌, Bool, true, false, List, [], ◌∷◌, length, take, Option, Some, None, refl, sym, ap, ◌∙◌, arith, if◌then◌else◌}
+use Rattle.std.proofs.Common.{◌≡◌, ℕ, zero, suc, ◌<◌, ◌≤◌, Bool, List, [], ◌∷◌, take, Option, Some, None, refl, ap, arith}
 use Rattle.std.proofs.lemmas.Bool.Decides.{nat_tests}
 use Rattle.bus_base.specs.declared.samples.Channel.{Channel}
 use Rattle.bus_words.specs.Fields.{word_count}
 use Rattle.bus_words.specs.declared.word.Word.{Word}
 use Rattle.bus_formats.specs.Plans.{TerminalData}
 use Rattle.bus_formats.specs.Readings.{command_in, datum_in, data_in, word_before}
-use Rattle.bus_model.specs.Commands.{words_after, relay_in, tail_of, tail_by}
+use Rattle.bus_model.specs.Commands.{words_after, relay_in, tail_of}
 use Rattle.bus_model.specs.Memory.{Memory}
 use Rattle.bus_model.specs.Orders.{obey, obey_tail, keep_promise, kept, relayed, data_from}
 

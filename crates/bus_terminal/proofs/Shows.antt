@@ -1,5 +1,5 @@
 -- What a state that stands shows: what it keeps, and what it sends.
-use Rattle.std.proofs.Common.{◌≡◌, ℕ, zero, suc, ◌+◌, ◌-◌, ◌<◌, ◌≤◌, Bool, true, false, not, ◌&&◌, ◌||◌, nat_lt, List, [], ◌∷◌, length, Option, Some, None, refl, sym, ap, ◌∙◌, subst, arith, if◌then◌else◌}
+use Rattle.std.proofs.Common.{◌≡◌, ℕ, ◌-◌, Bool, true, false, ◌||◌, nat_lt, List, length, refl, sym, ap, ◌∙◌, arith, if◌then◌else◌}
 use Rattle.std.proofs.lemmas.Bool.{lt-ltb, le-ltb}
 use Rattle.bus_base.specs.declared.samples.Channel.{Channel}
 use Rattle.bus_base.specs.declared.samples.Part.{Part}
@@ -13,9 +13,8 @@ use Rattle.bus_model.specs.Hearing.{Moment, heard_on}
 use Rattle.bus_model.specs.Sending.{drive_sample}
 use Rattle.bus_model.specs.Standing.{Standing}
 use Rattle.bus_model.specs.Terminal.{drive_of, drive_duty, given_up, is_over}
-use Rattle.bus_terminal.specs.Stands.{CommonStands, StateStands, rests, ListeningStands, PromisedStands, OwingStands, AnsweringStands}
+use Rattle.bus_terminal.specs.Stands.{CommonStands, StateStands, rests}
 use Rattle.bus_terminal.specs.Shown.{common_of, drive_told}
-use Rattle.bus_terminal.specs.declared.common.Common.{Common}
 use Rattle.bus_terminal.specs.declared.state.TerminalState.{TerminalState}
 use Rattle.bus_terminal.specs.declared.state.TerminalState.TheVariants as states
 use Rattle.bus_terminal.proofs.Heard.{length-heard}

@@ -1,26 +1,23 @@
 -- The state that an order leaves stands for what it left.
-use Rattle.std.proofs.Common.{◌≡◌, ℕ, zero, suc, ◌+◌, ◌-◌, ◌<◌, ◌≤◌, Bool, true, false, not, ◌&&◌, ◌||◌, ◌==◌, nat_lt, nat_le, List, [], ◌∷◌, length, Option, Some, None, refl, sym, ap, ◌∙◌, subst, arith, inl, inr, ◌⊎◌, if◌then◌else◌}
+use Rattle.std.proofs.Common.{◌≡◌, ℕ, suc, ◌+◌, ◌≤◌, Bool, true, false, nat_lt, List, length, refl, sym, ap, ◌∙◌, subst, arith, inl, inr, ◌⊎◌, if◌then◌else◌}
 use Rattle.std.specs.Prelude.{is_some}
 use Rattle.std.proofs.lemmas.Bool.{ltb-true, ltb-false}
-use Rattle.std.proofs.lemmas.Bool.Decides.{nat_tests}
 use Rattle.bus_base.specs.declared.samples.Channel.{Channel}
 use Rattle.bus_base.specs.declared.samples.Part.{Part}
-use Rattle.bus_line.specs.Past.{quiet, heard_within, end_since}
+use Rattle.bus_line.specs.Past.{quiet, heard_within}
 use Rattle.bus_line.proofs.EndLaws.{end_since-early}
 use Rattle.bus_formats.specs.Plans.{TerminalData}
-use Rattle.bus_formats.specs.Times.{dead_ticks}
 use Rattle.bus_model.specs.Memory.{TimedLoad}
 use Rattle.bus_model.specs.Orders as orders
 use Rattle.bus_model.specs.Orders.{free, owes, promises, due_after}
 use Rattle.bus_model.specs.Hearing.{Moment, heard_on}
 use Rattle.bus_model.specs.Standing.{Standing, superseded, is_owed}
-use Rattle.bus_model.specs.Terminal.{given_up, is_over}
+use Rattle.bus_model.specs.Terminal.{given_up}
 use Rattle.bus_orders.specs.Meant.{duty_meant}
 use Rattle.bus_orders.specs.declared.done.Duty.{Duty}
 use Rattle.bus_orders.specs.declared.done.Duty.TheVariants as duties
-use Rattle.bus_orders.specs.declared.done.Answer.{Answer}
-use Rattle.bus_terminal.specs.Stands.{TerminalFits, CommonStands, rests, StateStands, IsSending, OwingStands, AnsweringStands}
-use Rattle.bus_terminal.specs.Steps.{duty_told, owes_told, stands_told, listens}
+use Rattle.bus_terminal.specs.Stands.{CommonStands, rests, StateStands, IsSending}
+use Rattle.bus_terminal.specs.Steps.{duty_told, owes_told, stands_told}
 use Rattle.bus_terminal.specs.declared.common.Common.{Common}
 use Rattle.bus_terminal.specs.declared.state.Sends.{Sends}
 use Rattle.bus_terminal.specs.declared.state.TerminalState.{TerminalState}

@@ -1,23 +1,22 @@
 -- A tick without an order, and what is common to all states in a tick.
-use Rattle.std.proofs.Common.{◌≡◌, ℕ, zero, suc, ◌+◌, ◌^◌, ◌<◌, ◌≤◌, Bool, true, false, not, ◌&&◌, ◌||◌, ◌==◌, nat_le, List, [], ◌∷◌, length, Option, Some, None, refl, sym, ap, ◌∙◌, subst, arith, inl, inr, ◌⊎◌, if◌then◌else◌}
-use Rattle.std.specs.Prelude.{is_some, is_none, IfSome}
-use Rattle.std.proofs.lemmas.Bool.{cases_Bool}
+use Rattle.std.proofs.Common.{◌≡◌, ℕ, ◌+◌, ◌^◌, ◌<◌, ◌≤◌, Bool, true, false, not, ◌&&◌, ◌||◌, ◌==◌, List, ◌∷◌, length, Option, Some, None, refl, sym, ap, ◌∙◌, subst, arith, inl, inr, ◌⊎◌}
+use Rattle.std.specs.Prelude.{is_some, IfSome}
 use Rattle.std.proofs.lemmas.Bool.Decides.{nat_tests}
 use Rattle.bus_base.specs.Samples.{same_channel, other_of}
 use Rattle.bus_base.specs.declared.samples.Channel.{Channel}
 use Rattle.bus_base.specs.declared.samples.Channel.TheVariants.{A, B}
 use Rattle.bus_base.specs.declared.samples.Sample.{Sample}
-use Rattle.bus_line.specs.Past.{quiet, heard_within, end_since, slot_now}
+use Rattle.bus_line.specs.Past.{heard_within, end_since, slot_now}
 use Rattle.bus_line.proofs.EndLaws.{end_since-stays, end_since-late}
 use Rattle.bus_formats.specs.Plans.{TerminalData}
-use Rattle.bus_model.specs.Memory.{Memory, TimedLoad, with_loads}
+use Rattle.bus_model.specs.Memory.{TimedLoad}
 use Rattle.bus_model.specs.Orders.{Duty, free, owes, promises, due_after}
 use Rattle.bus_model.specs.Hearing.{Moment, heard_on, is_addressed}
-use Rattle.bus_model.specs.Standing.{Standing, Handled, mark_on, ignored_from, is_from, superseded, is_owed, is_promise, promised_on}
+use Rattle.bus_model.specs.Standing.{Standing, Handled, mark_on, ignored_from, is_from, superseded, is_owed, is_promise}
 use Rattle.bus_model.specs.Terminal.{marked_by, order_now, after_tick, ordered, taken_by, addressed_on, sent_on, begins, given_up, is_over, running_out}
-use Rattle.bus_terminal.specs.Holding.{EarsStand, Listens, begins_on}
+use Rattle.bus_terminal.specs.Holding.{EarsStand, Listens}
 use Rattle.bus_terminal.specs.Handling.{HandledIs, AreHandled, EndFits, Awaits}
-use Rattle.bus_terminal.specs.Stands.{CommonStands, rests, TakenIs, channel_of}
+use Rattle.bus_terminal.specs.Stands.{CommonStands, rests}
 use Rattle.bus_terminal.specs.declared.common.Common.{Common}
 use Rattle.bus_terminal.specs.declared.common.Ears.{Ears}
 use Rattle.bus_terminal.specs.declared.handling.Handled.{Handled as HandledTold}

@@ -1,5 +1,5 @@
 -- What a terminal handles in a tick: as its code finds it, and what that means.
-use Rattle.std.specs.Prelude.{◌≡◌, ℕ, ◌+◌, ◌<◌, ◌^◌, nat_le, Bool, true, false, ◌&&◌, if◌then◌else◌, List, length, take, Option, Some, None, ⊤, IfSome}
+use Rattle.std.specs.Prelude.{◌≡◌, ℕ, ◌+◌, ◌<◌, ◌^◌, nat_le, Bool, true, false, ◌&&◌, if◌then◌else◌, List, take, Option, Some, None, ⊤, IfSome}
 use Rattle.std.specs.Option.{option_or}
 use Rattle.bus_base.specs.Samples.{same_channel}
 use Rattle.bus_base.specs.declared.samples.Channel.{Channel}

@@ -1,13 +1,13 @@
 -- For which hearings the parts of a terminal stand.
-use Rattle.std.specs.Prelude.{◌≡◌, ℕ, ◌+◌, ◌<◌, ◌≤◌, Bool, true, false, ◌&&◌, List, [], ◌∷◌, length, take, Option, Some, None}
-use Rattle.bus_base.specs.Samples.{same_channel, sample_on}
+use Rattle.std.specs.Prelude.{◌≡◌, ℕ, Bool, false, ◌&&◌, List, Option, Some, None}
+use Rattle.bus_base.specs.Samples.{same_channel}
 use Rattle.bus_base.specs.declared.samples.Channel.{Channel}
 use Rattle.bus_base.specs.declared.samples.Channel.TheVariants.{A, B}
 use Rattle.bus_formats.specs.Plans.{TerminalData}
 use Rattle.bus_ears.specs.Ears.{EarStands, IsHeard}
 use Rattle.bus_ears.specs.declared.ear.TheConstants.{MOST_SLOTS}
 use Rattle.bus_model.specs.Hearing.{Moment, heard_on}
-use Rattle.bus_model.specs.Standing.{Standing, mark_on, ignored_from, outrun}
+use Rattle.bus_model.specs.Standing.{Standing, ignored_from, outrun}
 use Rattle.bus_model.specs.Terminal.{begins}
 use Rattle.bus_terminal.specs.declared.common.Ears.{Ears}
 use Rattle.bus_terminal.specs.declared.common.Listened.{Listened}

@@ -1,7 +1,6 @@
 -- For which hearings the states of a terminal stand.
-use Rattle.std.specs.Prelude.{◌≡◌, ℕ, suc, ◌+◌, ◌<◌, ◌≤◌, nat_lt, Bool, true, false, ◌&&◌, ◌||◌, List, [], ◌∷◌, length, Option, Some, None, ⊤}
+use Rattle.std.specs.Prelude.{◌≡◌, ℕ, suc, ◌+◌, ◌<◌, ◌≤◌, Bool, true, false, ◌||◌, List, [], ◌∷◌, length, Option, Some, None, is_some, ⊤}
 use Rattle.bus_base.specs.declared.samples.Channel.{Channel}
-use Rattle.bus_base.specs.declared.samples.Sample.{Sample}
 use Rattle.bus_line.specs.Past.{heard_within}
 use Rattle.bus_formats.specs.Plans.{TerminalData}
 use Rattle.bus_formats.specs.Times.{dead_ticks}
@@ -108,11 +107,18 @@ channel_of s None = s.channel
 channel_of s (Some (obeys c end order rest)) = c
 channel_of s (Some _) = s.channel
 
--- the state after a tick, and what is told of it
-pub record NextStands (k : ℕ) (terminal : TerminalData) (loads : List TimedLoad) (next : TerminalNext) (past : List Moment) (now : Moment) (s : Standing) : Type 0 where
+-- what the newest tick told of acceptance, where an answer that accepts has this end, or none: control was accepted, unless a block was taken
+abbrev pub AcceptedIs : TerminalEvent → Option ℕ → Type 0
+AcceptedIs events.Nothing accepted = accepted ≡ None
+AcceptedIs (events.Took delivery) accepted = ⊤
+AcceptedIs events.Accepted accepted = is_some accepted ≡ true
+
+-- the state after a tick, and what is told of it, where control is accepted with this end
+pub record NextStands (k : ℕ) (terminal : TerminalData) (loads : List TimedLoad) (next : TerminalNext) (past : List Moment) (now : Moment) (s : Standing) (end : Option ℕ) : Type 0 where
   pub state : StateStands k terminal loads next.state (now ∷ past) (after_tick k terminal loads now past s)
   pub taken : TakenIs next.event (length past) (channel_of s (order_now k terminal (now ∷ past) s))
       (taken_by k terminal loads (length past) now.may s (order_now k terminal (now ∷ past) s))
+  pub accepted : AcceptedIs next.event end
 
 -- a state that listens as after quiet ticks, with the plan and the memory of another
 abbrev pub RestsFrom : ℕ → TerminalState → Common → Type 0

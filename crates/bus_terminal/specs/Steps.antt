@@ -1,12 +1,15 @@
 -- What an order leaves, as a function of what the code knows of it.
-use Rattle.std.specs.Prelude.{ℕ, nat_lt, Bool, true, false, not, ◌||◌, if◌then◌else◌, Option, Some, None}
+use Rattle.std.specs.Prelude.{ℕ, ◌+◌, ◌==◌, nat_lt, nat_le, Bool, false, not, ◌&&◌, ◌||◌, if◌then◌else◌, Option, Some, None}
 use Rattle.bus_base.specs.declared.samples.Channel.{Channel}
+use Rattle.bus_base.specs.declared.samples.Channel.TheVariants.{A, B}
 use Rattle.bus_base.specs.declared.samples.Part.{Part}
+use Rattle.bus_ears.specs.declared.ear.HeardBurst.{HeardBurst}
 use Rattle.bus_model.specs.Orders.{due_after}
 use Rattle.bus_orders.specs.declared.done.Duty.{Duty}
 use Rattle.bus_orders.specs.declared.done.Duty.TheVariants as duties
 use Rattle.bus_orders.specs.declared.done.Taken.{Taken}
 use Rattle.bus_terminal.specs.declared.common.Common.{Common}
+use Rattle.bus_terminal.specs.declared.common.Listened.{Listened}
 use Rattle.bus_terminal.specs.declared.handling.Waiting.{Waiting}
 use Rattle.bus_terminal.specs.declared.state.Sends.{Sends}
 use Rattle.bus_terminal.specs.declared.state.TerminalState.{TerminalState}
@@ -61,6 +64,16 @@ begins_told begins c = if begins then Some c else None
 abbrev pub answering_on : Common → Sends → ℕ → Bool → Bool → TerminalState
 answering_on common sends sent newer ignored =
     if newer || not ignored then listens common else states.Answering record { common = common; sends = sends; sent = sent }
+
+-- the burst that ended on a channel
+abbrev pub told_on : Channel → Listened → Option HeardBurst
+told_on A told = told.a.burst
+told_on B told = told.b.burst
+
+-- a burst that ended began in this tick, and is as long as a status word at least
+abbrev pub is_status : ℕ → Option HeardBurst → Bool
+is_status due None = false
+is_status due (Some burst) = (burst.first == due) && nat_le (due + 40) burst.end
 
 -- control was accepted in a tick, unless a block was taken in it
 abbrev pub accepted_event : TerminalEvent → Bool → TerminalEvent

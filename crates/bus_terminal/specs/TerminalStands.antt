@@ -1,5 +1,5 @@
 -- For which hearings a terminal stands.
-use Rattle.std.specs.Prelude.{ℕ, zero, suc, false, List, [], ◌∷◌, ◌<◌, ◌≤◌, length, get_or}
+use Rattle.std.specs.Prelude.{ℕ, List, ◌<◌, ◌≤◌, length, get_or}
 use Rattle.bus_formats.specs.Plans.{TerminalData}
 use Rattle.bus_formats.specs.declared.plan.Load.{Load}
 use Rattle.bus_model.specs.Memory.{TimedLoad}

@@ -1,5 +1,5 @@
 //! A terminal whose answer runs.
-ghost use Rattle.std.specs.Prelude.{◌≡◌, ◌<◌, ◌^◌, ◌+◌, ◌==◌, ◌≤◌, ℕ, List, length, get_or};
+ghost use Rattle.std.specs.Prelude.{◌≡◌, ◌<◌, ◌^◌, ◌+◌, ◌==◌, ◌≤◌, ◌&&◌, ℕ, List, length, get_or};
 ghost use Rattle.bus_line.specs.declared.cutter.TheConstants.{LAG};
 ghost use Rattle.bus_formats.specs.Plans.{TerminalData};
 ghost use Rattle.bus_model.specs.Memory.{TimedLoad};
@@ -8,14 +8,17 @@ ghost use Rattle.bus_model.specs.Sending.{drive_sample};
 ghost use Rattle.bus_model.specs.Sending as sending;
 ghost use Rattle.bus_line.specs.Spelling.{spelling};
 ghost use Rattle.bus_model.specs.Standing.{Standing};
+ghost use Rattle.bus_model.specs.Terminal.{accepted_on};
 ghost use Rattle.bus_terminal.specs.Stands.{AnsweringStands, NextStands};
 ghost use Rattle.bus_terminal.specs.Steps.{answering_on, begins_told, accepted_told, accepted_event};
+ghost use Rattle.bus_terminal.specs.Steps as told;
 
 use crate::Listening;
 use crate::common::{Common, Listened};
 use crate::handling::found;
 use crate::state::{Sends, TerminalEvent, TerminalNext, TerminalState, act};
 use bus_base::{Channel, Drive, Pair, Part, Sample, Tick};
+use bus_ears::HeardBurst;
 use bus_line::spell;
 use bus_words::Word;
 
@@ -34,7 +37,8 @@ impl Answering {
         requires { (terminal : TerminalData) × (loads : List TimedLoad) × (past : List Moment) × (s : Standing) × AnsweringStands LAG terminal loads self past s
             × (length past ≡ now.0) × (now.0 < 2 ^ 60) }
         ensures { (terminal : TerminalData) (loads : List TimedLoad) (past : List Moment) (s : Standing) → AnsweringStands LAG terminal loads self past s →
-            length past ≡ now.0 → NextStands LAG terminal loads result past (record { shown = heard; may = may_accept }) s }
+            length past ≡ now.0 → NextStands LAG terminal loads result past (record { shown = heard; may = may_accept }) s
+            (accepted_on LAG terminal loads (record { shown = heard; may = may_accept }) past s) }
     {
         let mut common = self.common;
         let sends = self.sends;
@@ -115,16 +119,25 @@ fn send_on(common: Common, sends: Sends, sent: u64, newer: bool, ignored: bool) 
     }
 }
 
-// The answer accepts control, and the burst that ended is it, as long as a status word at least.
-fn accepts(sends: &Sends, listened: &Listened, due: u64) -> bool {
+// The answer accepts control, and the burst that ended on its channel is it.
+fn accepts(sends: &Sends, listened: &Listened, due: u64) -> bool
+    requires { due < 2 ^ 60 }
+    ensures { result ≡ (sends.now.answer.acceptance && told.is_status due (told.told_on sends.now.channel listened.now)) }
+{
     let burst = match sends.channel {
         Channel::A => &listened.a.burst,
         Channel::B => &listened.b.burst,
     };
+    sends.answer.acceptance && is_status(burst, due)
+}
+
+// The burst began when the answer was due, and is as long as a status word at least.
+fn is_status(burst: &Option<HeardBurst>, due: u64) -> bool
+    requires { due < 2 ^ 60 }
+    ensures { result ≡ told.is_status due burst.now }
+{
     match burst {
-        Some(burst) => sends.answer.acceptance
-            && burst.first == due
-            && burst.end >= due.saturating_add(40),
+        Some(burst) => burst.first == due && burst.end >= due + 40,
         None => false,
     }
 }

@@ -5,6 +5,7 @@ ghost use Rattle.bus_formats.specs.Plans.{TerminalData};
 ghost use Rattle.bus_model.specs.Memory.{TimedLoad};
 ghost use Rattle.bus_model.specs.Hearing.{Moment};
 ghost use Rattle.bus_model.specs.Standing.{Standing};
+ghost use Rattle.bus_model.specs.Terminal.{accepted_on};
 ghost use Rattle.bus_terminal.specs.Stands.{ListeningStands, NextStands};
 
 use crate::common::Common;
@@ -25,7 +26,8 @@ impl Listening {
         requires { (terminal : TerminalData) × (loads : List TimedLoad) × (past : List Moment) × (s : Standing) × ListeningStands LAG terminal loads self past s
             × (length past ≡ now.0) × (now.0 < 2 ^ 60) }
         ensures { (terminal : TerminalData) (loads : List TimedLoad) (past : List Moment) (s : Standing) → ListeningStands LAG terminal loads self past s →
-            length past ≡ now.0 → NextStands LAG terminal loads result past (record { shown = heard; may = may_accept }) s }
+            length past ≡ now.0 → NextStands LAG terminal loads result past (record { shown = heard; may = may_accept }) s
+            (accepted_on LAG terminal loads (record { shown = heard; may = may_accept }) past s) }
     {
         let mut common = self.common;
         let listened = common.listen(now.0, heard, None);

@@ -6,6 +6,7 @@ ghost use Rattle.bus_model.specs.Waits.{relay_wait};
 ghost use Rattle.bus_model.specs.Memory.{TimedLoad};
 ghost use Rattle.bus_model.specs.Hearing.{Moment};
 ghost use Rattle.bus_model.specs.Standing.{Standing};
+ghost use Rattle.bus_model.specs.Terminal.{accepted_on};
 ghost use Rattle.bus_terminal.specs.Stands.{PromisedStands, NextStands};
 ghost use Rattle.bus_terminal.specs.Steps.{promised_on_told};
 
@@ -32,7 +33,8 @@ impl Promised {
         requires { (terminal : TerminalData) × (loads : List TimedLoad) × (past : List Moment) × (s : Standing) × PromisedStands LAG terminal loads self past s
             × (length past ≡ now.0) × (now.0 < 2 ^ 60) }
         ensures { (terminal : TerminalData) (loads : List TimedLoad) (past : List Moment) (s : Standing) → PromisedStands LAG terminal loads self past s →
-            length past ≡ now.0 → NextStands LAG terminal loads result past (record { shown = heard; may = may_accept }) s }
+            length past ≡ now.0 → NextStands LAG terminal loads result past (record { shown = heard; may = may_accept }) s
+            (accepted_on LAG terminal loads (record { shown = heard; may = may_accept }) past s) }
     {
         let mut common = self.common;
         let waiting = self.waiting;

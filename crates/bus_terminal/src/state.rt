@@ -6,7 +6,7 @@ ghost use Rattle.bus_model.specs.Memory.{TimedLoad};
 ghost use Rattle.bus_model.specs.Orders.{due_after};
 ghost use Rattle.bus_model.specs.Hearing.{Moment};
 ghost use Rattle.bus_model.specs.Standing.{Standing, Handled as Order};
-ghost use Rattle.bus_model.specs.Terminal.{order_now, marked_by};
+ghost use Rattle.bus_model.specs.Terminal.{order_now, marked_by, accepted_on};
 ghost use Rattle.bus_terminal.specs.Handling as handling;
 ghost use Rattle.bus_terminal.specs.Holding.{EarsStand};
 ghost use Rattle.bus_terminal.specs.Stands as stands;
@@ -148,7 +148,7 @@ pub(crate) fn act(common: Common, now: u64, handled: Handled, may_accept: bool) 
         stands.CommonStands LAG terminal loads before past s → order_now LAG terminal (moment ∷ past) s ≡ Some order →
         handling.HandledIs handled order s → common.plan ≡ before.plan → common.memory ≡ before.memory →
         ((after : Standing) → EarsStand LAG terminal.address common.ears (moment ∷ past) (marked_by LAG terminal moment past s after)) →
-        now ≡ length past → moment.may ≡ may_accept → stands.NextStands LAG terminal loads result past moment s }
+        now ≡ length past → moment.may ≡ may_accept → stands.NextStands LAG terminal loads result past moment s None }
 {
     let mut common = common;
     let mut performed = perform(&common.plan, &mut common.memory, handled, may_accept);
@@ -167,7 +167,8 @@ impl TerminalState {
         requires { (terminal : TerminalData) × (loads : List TimedLoad) × (past : List Moment) × (s : Standing) × stands.StateStands LAG terminal loads self past s
             × (length past ≡ now.0) × (now.0 < 2 ^ 60) }
         ensures { (terminal : TerminalData) (loads : List TimedLoad) (past : List Moment) (s : Standing) → stands.StateStands LAG terminal loads self past s →
-            length past ≡ now.0 → stands.NextStands LAG terminal loads result past (record { shown = heard; may = may_accept }) s }
+            length past ≡ now.0 → stands.NextStands LAG terminal loads result past (record { shown = heard; may = may_accept }) s
+            (accepted_on LAG terminal loads (record { shown = heard; may = may_accept }) past s) }
     {
         match self {
             TerminalState::Listening(state) => state.hear(now, heard, may_accept),
@@ -187,6 +188,22 @@ impl TerminalState {
             TerminalState::Promised(state) => &state.common,
             TerminalState::Owing(state) => &state.common,
             TerminalState::Answering(state) => &state.common,
+        }
+    }
+
+    /// Makes the transmit block of a subaddress, 1 to 29, exactly the words, 1 to 32.
+    pub(crate) fn load(&mut self, sub: u8, words: &[u16])
+        requires first { 1 ≤ sub }
+        requires last { sub ≤ 29 }
+        requires some { 1 ≤ length words.now }
+        requires fits { length words.now ≤ 32 }
+        ensures { self.new ≡ shown.loaded_state self.old sub words.now }
+    {
+        match self {
+            TerminalState::Listening(state) => state.common.memory.load(sub, words),
+            TerminalState::Promised(state) => state.common.memory.load(sub, words),
+            TerminalState::Owing(state) => state.common.memory.load(sub, words),
+            TerminalState::Answering(state) => state.common.memory.load(sub, words),
         }
     }
 

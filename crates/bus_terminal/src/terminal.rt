@@ -1,12 +1,12 @@
 //! The terminal that the layer above uses.
-ghost use Rattle.std.specs.Prelude.{◌≡◌, ◌<◌, ◌^◌, ◌∷◌, [], ℕ, List, length, false};
+ghost use Rattle.std.specs.Prelude.{◌≡◌, ◌<◌, ◌^◌, ◌≤◌, ◌∷◌, ◌++◌, [], ℕ, List, length, false};
 ghost use Rattle.bus_line.specs.declared.cutter.TheConstants.{LAG};
 ghost use Rattle.bus_formats.specs.Plans.{TerminalData};
 ghost use Rattle.bus_model.specs.Memory.{TimedLoad, first_memory, clear_registers, no_blocks, loaded};
 ghost use Rattle.bus_model.specs.Hearing.{Hearing, Moment};
 ghost use Rattle.bus_model.specs.Standing.{Standing};
-ghost use Rattle.bus_model.specs.Terminal.{took_now, drives, memory_after, standing, order_now};
-ghost use Rattle.bus_terminal.specs.Stands.{TerminalFits, StateStands, NextStands, TakenIs, channel_of};
+ghost use Rattle.bus_model.specs.Terminal.{took_now, accepted_now, accepted_on, drives, memory_after, standing, order_now};
+ghost use Rattle.bus_terminal.specs.Stands.{TerminalFits, StateStands, NextStands, TakenIs, AcceptedIs, channel_of};
 ghost use Rattle.bus_terminal.specs.TerminalStands.{TerminalStands, HasLoads};
 ghost use Rattle.bus_terminal.specs.Quiet.{quiet_moments};
 ghost use Rattle.bus_terminal.specs.Stands.{AreMade, RestsFrom};
@@ -49,7 +49,8 @@ impl Terminal {
     }
 
     /// Hears what both channels show in the tick `now`, which follows the last tick heard. `may_accept` says that the terminal's station has
-    /// items left.
+    /// items left. It tells the block that it took whole in this tick, or else that it accepted control: the end of an answer with acceptance,
+    /// as long as a status word at least, is known in this tick (MIL-STD-1553B 4.3.3.5.1.7.1).
     pub fn hear(&mut self, now: Tick, heard: Pair, may_accept: bool) -> TerminalEvent
         requires { (plan : TerminalData) × (loads : List TimedLoad) × (hearing : Hearing) × TerminalStands LAG plan loads self.old hearing
             × (length hearing.ticks ≡ now.0) × (now.0 < 2 ^ 60) }
@@ -60,6 +61,8 @@ impl Terminal {
             (channel_of (standing LAG plan loads hearing.memory hearing.ticks)
             (order_now LAG plan (record { shown = heard; may = may_accept } ∷ hearing.ticks) (standing LAG plan loads hearing.memory hearing.ticks)))
             (took_now LAG plan loads (record hearing { ticks = record { shown = heard; may = may_accept } ∷ hearing.ticks })) }
+        ensures accepted { (plan : TerminalData) (loads : List TimedLoad) (hearing : Hearing) → TerminalStands LAG plan loads self.old hearing → length hearing.ticks ≡ now.0 →
+            AcceptedIs result (accepted_now LAG plan loads (record hearing { ticks = record { shown = heard; may = may_accept } ∷ hearing.ticks })) }
     {
         self.step(now, heard, may_accept)
     }
@@ -105,6 +108,24 @@ impl Terminal {
         self.rest()
     }
 
+    /// Makes the transmit block of a subaddress, 1 to 29, exactly the words, 1 to 32: a timed load at the last tick heard, or at once where
+    /// none was heard.
+    pub fn load(&mut self, sub: u8, words: &[u16])
+        requires first { 1 ≤ sub }
+        requires last { sub ≤ 29 }
+        requires some { 1 ≤ length words.now }
+        requires fits { length words.now ≤ 32 }
+        ensures timed { (plan : TerminalData) (loads : List TimedLoad) (memory : kept.Memory) (now : Moment) (past : List Moment) →
+            TerminalStands LAG plan loads self.old (record { memory = memory; ticks = now ∷ past }) →
+            TerminalStands LAG plan (loads ++ record { tick = length past; address = plan.address; sub = sub; words = words.now } ∷ []) self.new
+            (record { memory = memory; ticks = now ∷ past }) }
+        ensures at_once { (plan : TerminalData) (loads : List TimedLoad) (memory : kept.Memory) →
+            TerminalStands LAG plan loads self.old (record { memory = memory; ticks = [] }) →
+            TerminalStands LAG plan loads self.new (record { memory = kept.load_block memory sub words.now; ticks = [] }) }
+    {
+        self.state.load(sub, words);
+    }
+
     fn rest(&mut self)
         ensures { RestsFrom LAG self.new.state (common_of self.old.state) }
     {
@@ -119,7 +140,8 @@ impl Terminal {
         requires { (terminal : TerminalData) × (loads : List TimedLoad) × (past : List Moment) × (s : Standing) × StateStands LAG terminal loads self.old.state past s
             × (length past ≡ now.0) × (now.0 < 2 ^ 60) }
         ensures { (terminal : TerminalData) (loads : List TimedLoad) (past : List Moment) (s : Standing) → StateStands LAG terminal loads self.old.state past s →
-            length past ≡ now.0 → NextStands LAG terminal loads (record { state = self.new.state; event = result }) past (record { shown = heard; may = may_accept }) s }
+            length past ≡ now.0 → NextStands LAG terminal loads (record { state = self.new.state; event = result }) past (record { shown = heard; may = may_accept }) s
+            (accepted_on LAG terminal loads (record { shown = heard; may = may_accept }) past s) }
     {
         core::mem::replace_with(
             &mut self.state,

@@ -1,4 +1,4 @@
-use Rattle.std.proofs.Common.{◌≡◌, subst, ◌∙◌, sym, List, ℕ}
+use Rattle.std.proofs.Common.{subst}
 use Rattle.bus_line.specs.declared.cutter.TheConstants.{LAG}
 use Rattle.bus_terminal.specs.Handling.{HandledIs}
 use Rattle.bus_terminal.specs.declared.handling.Handled.{Handled}

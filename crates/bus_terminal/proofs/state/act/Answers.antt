@@ -1,7 +1,5 @@
-use Rattle.std.proofs.Common.{◌≡◌, ℕ, ◌+◌, ◌∷◌, ◌∙◌, sym, refl, arith, ap, suc}
-use Rattle.bus_base.specs.declared.samples.Channel.{Channel}
+use Rattle.std.proofs.Common.{◌+◌, ◌∷◌, ◌∙◌, arith, ap}
 use Rattle.bus_line.specs.declared.cutter.TheConstants.{LAG}
-use Rattle.bus_orders.specs.declared.done.Taken.{Taken}
 use Rattle.bus_terminal.specs.Steps.{event_told}
 use Rattle.bus_terminal.proofs.Nexts.{next-stands}
 use Rattle.bus_terminal.proofs.state.act.Goals as goal

@@ -1,6 +1,4 @@
-use Rattle.std.proofs.Common.{◌≡◌, ℕ, None, Option, subst, sym}
 use Rattle.bus_base.specs.declared.samples.Channel.TheVariants.{A, B}
-use Rattle.bus_line.specs.declared.cutter.TheConstants.{LAG}
 use Rattle.bus_terminal.proofs.Quiet.{quiet-heard}
 use Rattle.bus_terminal.proofs.common.Ears.new.Goals as goal
 

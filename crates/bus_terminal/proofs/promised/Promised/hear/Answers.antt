@@ -1,8 +1,8 @@
-use Rattle.std.proofs.Common.{◌≡◌, ℕ, ◌+◌, ◌∷◌, ◌∙◌, sym, ap, suc, refl, arith, Bool, ◌||◌, Some, None}
+use Rattle.std.proofs.Common.{◌∷◌, ◌∙◌, sym, refl, arith, Some}
 use Rattle.bus_line.specs.declared.cutter.TheConstants.{LAG}
-use Rattle.bus_model.specs.Waits.{relay_wait}
 use Rattle.bus_model.specs.Hearing.{Moment}
 use Rattle.bus_model.specs.Terminal.{marked_by}
+use Rattle.bus_terminal.proofs.Accepting.{next-silent, promised-accepts}
 use Rattle.bus_terminal.proofs.Found.{all-found}
 use Rattle.bus_terminal.proofs.Listened.{fits-of}
 use Rattle.bus_terminal.proofs.PromisedTicks.{promised-listens, promised-awaits, heard-since, runs-out, promised-none, last-none, found-with}
@@ -48,8 +48,9 @@ returns-in-Some c = λ terminal loads past s st here.
     let since = heard-since LAG terminal loads c.args.self past moment s c.is_heard.result st c.is_heard.ensures ∙ sym c.either-since.ensures in
     let out = runs-out LAG terminal loads c.args.self past moment s c.either-since.result c.runs_out-out.result st since (rw here c.runs_out-out.ensures) in
     let some = some-handled s _ c.in-Some.handled _ (all-found LAG terminal past moment s c.listen-listened.result (Some c.args.self.waiting) c.runs_out-out.result told (promised-awaits LAG terminal loads c.args.self past s st) out) (sym found ∙ c.in-Some.is) in
-    c.act.ensures terminal loads c.args.self.common past moment s some.0 st.common some.1 some.2 c.listen-listened.ensures.plan c.listen-listened.ensures.memory
-    (λ after. c.listen-listened.ensures.stands terminal loads past s after moment st.common here refl (promised-listens LAG terminal loads c.args.self past s st)) (sym here) refl
+    next-silent LAG terminal loads _ past moment s _ (promised-accepts LAG terminal loads c.args.self moment past s st)
+    (c.act.ensures terminal loads c.args.self.common past moment s some.0 st.common some.1 some.2 c.listen-listened.ensures.plan c.listen-listened.ensures.memory
+    (λ after. c.listen-listened.ensures.stands terminal loads past s after moment st.common here refl (promised-listens LAG terminal loads c.args.self past s st)) (sym here) refl)
 
 pub returns-in-None : goal.returns-in-None
 returns-in-None c = λ terminal loads past s st here.
@@ -61,7 +62,8 @@ returns-in-None c = λ terminal loads past s st here.
     let none = none-handled s _ _ (all-found LAG terminal past moment s c.listen-listened.result (Some c.args.self.waiting) c.runs_out-out.result told (promised-awaits LAG terminal loads c.args.self past s st) out) (sym found ∙ c.in-None.is) in
     let not_out = last-none _ _ _ c.runs_out-out.result (sym found ∙ c.in-None.is) in
     let stands = c.listen-listened.ensures.stands terminal loads past s s moment st.common here refl (promised-listens LAG terminal loads c.args.self past s st) in
-    rw (c.wait_on.ensures, c.either-since.ensures)
+    next-silent LAG terminal loads _ past moment s _ (promised-accepts LAG terminal loads c.args.self moment past s st)
+    (rw (c.wait_on.ensures, c.either-since.ensures)
     (promised-none LAG terminal loads c.args.self c.listen-listened.new.self past moment s c.is_heard.result c.runs_out-out.result c.supersede-newer.result
     st none c.listen-listened.ensures.plan c.listen-listened.ensures.memory stands c.is_heard.ensures (rw (here, ← c.either-since.ensures) c.runs_out-out.ensures) not_out
-    (c.supersede-newer.ensures terminal.address (moment ∷ past) (marked_by LAG terminal moment past s s) stands st.waiting.channel st.waiting.end))
+    (c.supersede-newer.ensures terminal.address (moment ∷ past) (marked_by LAG terminal moment past s s) stands st.waiting.channel st.waiting.end)))

@@ -1,8 +1,8 @@
-use Rattle.std.proofs.Common.{◌≡◌, ap, ◌∙◌}
+use Rattle.std.proofs.Common.{ap}
 use Rattle.bus_line.specs.declared.cutter.TheConstants.{LAG}
 use Rattle.bus_model.specs.Memory.{Memory}
 use Rattle.bus_terminal.specs.TerminalStands.{TerminalStands}
-use Rattle.bus_terminal.proofs.Shows.{state-common, state-drives}
+use Rattle.bus_terminal.proofs.Shows.{state-common}
 use Rattle.bus_terminal.proofs.terminal.Terminal.buffers.Goals as goal
 
 pub returns : goal.returns

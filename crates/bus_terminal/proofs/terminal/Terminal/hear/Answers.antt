@@ -1,10 +1,10 @@
-use Rattle.std.proofs.Common.{◌≡◌, ℕ, ◌∷◌, length, sym, subst}
+use Rattle.std.proofs.Common.{ℕ, ◌∷◌, length, subst}
 use Rattle.bus_line.specs.declared.cutter.TheConstants.{LAG}
 use Rattle.bus_model.specs.Hearing.{Moment}
 use Rattle.bus_model.specs.Standing.{Standing}
-use Rattle.bus_model.specs.Terminal.{standing, took_now, order_now, taken_by}
+use Rattle.bus_model.specs.Terminal.{standing, order_now, taken_by}
 use Rattle.bus_terminal.proofs.Quiet.{standing-tick}
-use Rattle.bus_terminal.specs.Stands.{StateStands, TakenIs, channel_of}
+use Rattle.bus_terminal.specs.Stands.{TakenIs, channel_of}
 use Rattle.bus_terminal.specs.TerminalStands.{TerminalStands}
 use Rattle.bus_terminal.proofs.terminal.Terminal.hear.Goals as goal
 
@@ -28,3 +28,8 @@ returns-clause-took c = λ plan loads hearing st here.
     let s : Standing = standing LAG plan loads hearing.memory hearing.ticks in
     subst (λ (n : ℕ). TakenIs c.step.result n (channel_of s (order_now LAG plan (now ∷ hearing.ticks) s)) (taken_by LAG plan loads (length hearing.ticks) now.may s (order_now LAG plan (now ∷ hearing.ticks) s)))
     here (c.step.ensures plan loads hearing.ticks s st here).taken
+
+pub returns-clause-accepted : goal.returns-clause-accepted
+unfolding TerminalStands
+returns-clause-accepted c = λ plan loads hearing st here.
+    (c.step.ensures plan loads hearing.ticks (standing LAG plan loads hearing.memory hearing.ticks) st here).accepted

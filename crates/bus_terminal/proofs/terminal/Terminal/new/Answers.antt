@@ -1,11 +1,7 @@
-use Rattle.std.proofs.Common.{◌≡◌, ℕ, [], ◌∙◌, ap, subst, sym, refl, arith}
+use Rattle.std.proofs.Common.{[], ◌∙◌, ap, refl, arith}
 use Rattle.bus_line.specs.declared.cutter.TheConstants.{LAG}
 use Rattle.bus_model.specs.Memory.{first_memory}
-use Rattle.bus_model.specs.Standing.{Standing, at_rest}
-use Rattle.bus_terminal.specs.Stands.{StateStands}
 use Rattle.bus_terminal.specs.TerminalStands.{TerminalStands}
-use Rattle.bus_terminal.specs.Quiet.{quiet_moments}
-use Rattle.bus_terminal.specs.declared.state.TerminalState.TheVariants as states
 use Rattle.bus_terminal.proofs.Quiet.{quiet-stands}
 use Rattle.bus_terminal.proofs.terminal.Terminal.new.Goals as goal
 

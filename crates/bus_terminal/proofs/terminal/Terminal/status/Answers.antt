@@ -1,4 +1,4 @@
-use Rattle.std.proofs.Common.{◌≡◌, ap, ◌∙◌, false, subst, ℕ, sym, ◌≤◌}
+use Rattle.std.proofs.Common.{ap, ◌∙◌, false, subst, sym, ◌≤◌}
 use Rattle.bus_line.specs.declared.cutter.TheConstants.{LAG}
 use Rattle.bus_formats.specs.Plans.{TerminalData}
 use Rattle.bus_formats.specs.declared.log.Registers.{Registers}
