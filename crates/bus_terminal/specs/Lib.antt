@@ -5,3 +5,4 @@ pub mod Stands
 pub mod TerminalStands
 pub mod Shown
 pub mod Quiet
+pub mod Heard

@@ -10,6 +10,8 @@ mod owing;
 mod promised;
 mod state;
 mod terminal;
+#[cfg(test)]
+mod tests;
 
 pub use answering::Answering;
 pub use listening::Listening;

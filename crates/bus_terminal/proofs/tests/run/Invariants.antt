@@ -1,0 +1,6 @@
+use Rattle.bus_terminal.specs.Heard.{HasHeard}
+use Rattle.bus_terminal.proofs.tests.run.Given as goal
+
+-- it heard the ticks so far
+abbrev pub invariant-loop-now : goal.invariant-loop-now
+invariant-loop-now l = HasHeard l.terminal l.now
