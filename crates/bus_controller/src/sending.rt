@@ -16,7 +16,7 @@ use crate::states::{ControllerNext, ControllerState};
 use arrayvec::ArrayVec;
 use bus_base::{Drive, Part, Sample};
 use bus_formats::{Outcome, answers, command_burst};
-use bus_line::{LAG, spell};
+use bus_line::{LAG, sample_of};
 use bus_words::Word;
 
 /// A message's command is sent, until its own channel is quiet for four ticks in a row.
@@ -75,7 +75,7 @@ impl Sending {
             None => Drive::Silent,
             Some(word) => Drive::On {
                 channel: self.begun.state.channel,
-                sample: spell(*word)[usize::from(self.sent % 40)],
+                sample: sample_of(*word, usize::from(self.sent % 40)),
                 part: Part::Command,
                 last: usize::from(self.sent) + 1 == 40 * words.len(),
             },

@@ -1,5 +1,5 @@
 -- Slots that hold data words.
-use Rattle.std.proofs.Common.{◌≡◌, ℕ, zero, suc, Bool, true, false, ◌&&◌, nat_eq, List, [], ◌∷◌, length, Option, Some, None, is_some, refl, arith}
+use Rattle.std.proofs.Common.{◌≡◌, ℕ, zero, suc, ◌&&◌, nat_eq, List, [], ◌∷◌, length, Option, Some, None, is_some, refl, arith}
 use Rattle.std.specs.List.{list_all}
 use Rattle.bus_words.specs.declared.word.Word.{Word}
 use Rattle.bus_formats.specs.Readings.{datum_in, data_in, word_before}

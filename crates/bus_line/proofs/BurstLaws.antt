@@ -116,6 +116,7 @@ burst-more k x past p n b = elim (cases_Bool (is_quiet x)) [
   ]
 ]
 
+-- and with any number of ticks more
 pub burst-later : (k : ℕ) (later past : List Sample) (p n : ℕ) → IsBurst k past p n → (m : ℕ) × (n ≤ m) × IsBurst k (later ++ past) p m
 burst-later k [] past p n b = (n, omega arith, b)
 burst-later k (x ∷ later) past p n b =
@@ -163,6 +164,7 @@ rests-quiet k past off t near =
       | inr many ↦ quiet-since past t (omega (arith, many, below))
     ]
 
+-- the newest burst with a tick that isn't quiet: the one that ran, grown, or a new one
 newest-pulse : (k : ℕ) (x : Sample) (past : List Sample) → is_quiet x ≡ false →
     (runs k past ≡ true → IsBurst k past (first_tick k past) (stopped past - first_tick k past)) →
     IsBurst k (x ∷ past) (first_tick k (x ∷ past)) (stopped (x ∷ past) - first_tick k (x ∷ past))
@@ -211,6 +213,7 @@ runs-burst k past on =
     let less : first_tick k past < stopped past = first_tick-lt k past parts.0 in
     (first_tick k past, stopped past - first_tick k past, newest-burst k past parts.0, omega (arith, parts.1, below, less))
 
+-- and the other way
 pub burst-runs : (k : ℕ) (past : List Sample) (p n : ℕ) → IsBurst k past p n → length past ≤ p + n + k → runs k past ≡ true
 burst-runs k past p n b near =
     let stop : stopped past ≡ p + n = burst-stopped k past p n b (λ t late within. b.after t late (omega (arith, within, near))) in

@@ -14,10 +14,12 @@ use Rattle.bus_line.proofs.SlotLaws.{burst-first, burst-ticks, slots-count, slot
 use Rattle.bus_line.proofs.CutNow.{now-idle, now-pending, now-ended, now-begins, now-pulse, ended-more, ended-none}
 use Rattle.bus_line.proofs.LookUpLaws.{between-some, slot-is-now, stopped-before}
 
+-- where no burst runs there are no words
 pub running-off : (k : ℕ) (past : List Sample) → runs k past ≡ false → running_slots k past ≡ []
 unfolding running_slots
 running-off k past off = rw off refl
 
+-- where one runs, those of the newest burst
 pub running-on : (k : ℕ) (past : List Sample) → runs k past ≡ true → running_slots k past ≡ (newest_burst k past).slots
 unfolding running_slots
 running-on k past on = rw on refl
@@ -31,6 +33,7 @@ slots-before k x past on =
     running-on k past on ∙ ap (λ (b : Burst). b.slots)
     (sym (burst_from-more x past (first_tick k past) (stopped past - first_tick k past) (omega (arith, less, below))))
 
+-- the words with a tick that isn't quiet
 slots-with : (k : ℕ) (x : Sample) (past : List Sample) → is_quiet x ≡ false → runs k past ≡ true →
     running_slots k (x ∷ past) ≡ (burst_from (x ∷ past) (first_tick k past) (suc (length past) - first_tick k past)).slots
 slots-with k x past pulse on =
@@ -38,6 +41,7 @@ slots-with k x past pulse on =
     let now : stopped (x ∷ past) ≡ suc (length past) = stopped-pulse x past pulse in
     running-on k (x ∷ past) (runs-pulse k x past pulse) ∙ (rw (first, now) refl)
 
+-- a quiet tick adds none
 collects-quiet : (k : ℕ) (past : List Sample) → Collects (cut_now k (Quiet ∷ past)) (running_slots k past) (running_slots k (Quiet ∷ past))
 collects-quiet k past = elim (cases_Bool (runs k past)) [
   | inr off ↦ rw (now-idle k past off) (running-off k (Quiet ∷ past) (rests-more k past off) ∙ sym (running-off k past off))
@@ -82,6 +86,7 @@ collects-pulse k x past small pulse on =
           ))
     ]
 
+-- the first tick of a burst adds none
 collects-begins : (k : ℕ) (x : Sample) (past : List Sample) → is_quiet x ≡ false → runs k past ≡ false →
     Collects (cut_now k (x ∷ past)) (running_slots k past) (running_slots k (x ∷ past))
 collects-begins k x past pulse off =
@@ -104,6 +109,7 @@ cut-collects k x past small = elim (cases_Bool (is_quiet x)) [
 
 -- ---- an end
 
+-- quiet tick k + 1 ends the burst that ran
 closes-quiet : (k : ℕ) (past : List Sample) (burst : Burst) → quiet past ≡ k → 0 < stopped past → ended_now k (Quiet ∷ past) ≡ Some burst →
     Closes k Quiet past burst
 closes-quiet k past burst all some h =
@@ -145,6 +151,7 @@ late-none k x past p i s late =
     let below : quiet past ≤ length past = quiet-le past in
     word-before (p + 40 * i) (length past - (p + 40 * i + 40)) x past (omega (arith, late)) (omega (arith, stop, below, late))
 
+-- a slot that became whole is the next
 fills-at : (k : ℕ) (x : Sample) (past : List Sample) (i : ℕ) → k ≤ 39 → is_quiet x ≡ false → runs k past ≡ true →
     slot_between (stopped past - first_tick k past) (suc (length past) - first_tick k past) ≡ Some i →
     Fills k x past record { first = first_tick k (x ∷ past) + 40 * i; word = slot_word (x ∷ past) (first_tick k (x ∷ past)) i }
@@ -168,6 +175,7 @@ fills-at k x past i small pulse on found =
       ];
     }
 
+-- the same, by the number that is looked up
 fills-number : (k : ℕ) (x : Sample) (past : List Sample) (slot : Slot) (number : Option ℕ) → ((i : ℕ) → number ≡ Some i →
     Fills k x past record { first = first_tick k (x ∷ past) + 40 * i; word = slot_word (x ∷ past) (first_tick k (x ∷ past)) i }) →
     slot_of (x ∷ past) (first_tick k (x ∷ past)) number ≡ Some slot → Fills k x past slot

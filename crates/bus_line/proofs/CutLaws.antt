@@ -23,6 +23,7 @@ kept-more m samples past x fits kept =
     let at : m + 1 ≡ suc m = omega arith in
     (rw at at more) ∙ (rw (reverse-more x (take m past), kept) refl)
 
+-- the same by places in a slot, the last place beginning the next slot
 kept-next : (place : ℕ) (samples past : List Sample) (x : Sample) → length samples ≡ 40 →
     take (place % 40) samples ≡ newest_samples (place % 40) past →
     take ((place + 1) % 40) (set samples (place % 40) x) ≡ newest_samples ((place + 1) % 40) (x ∷ past)
@@ -38,11 +39,13 @@ quiet-alone : (n : ℕ) → (quiet (quiet_ticks n) ≡ n) × (length (quiet_tick
 quiet-alone zero = (refl, refl)
 quiet-alone (suc n) = (ap suc (quiet-alone n).0, ap suc (quiet-alone n).1)
 
+-- among quiet ticks alone no burst runs
 pub rests-alone : (k n : ℕ) → runs k (quiet_ticks n) ≡ false
 rests-alone k n =
     let all : (quiet (quiet_ticks n) ≡ n) × (length (quiet_ticks n) ≡ n) = quiet-alone n in
     rests-from k (quiet_ticks n) (inl (omega (arith, all.0, all.1)))
 
+-- so a new cutter follows them
 pub new-stands : (k n : ℕ) (samples : List Sample) → length samples ≡ 40 →
     Follows k record { samples = samples; slots = 0; rest = 0; quiet = suc k } (quiet_ticks n)
 new-stands k n samples forty =
@@ -61,12 +64,15 @@ new-stands k n samples forty =
 module _ (k : ℕ) (c : Cutter) (past : List Sample) (s : Follows k c past) where
   -- ---- where no burst runs
 
+  -- a cutter that waits for a burst knows that none runs
   pub off : k < c.quiet → runs k past ≡ false
   off idle = grind (arith, nat_tests, s.runs)
 
+  -- a quiet tick tells nothing
   pub idle-cut : k < c.quiet → cuts.Nothing ≡ cut_now k (Quiet ∷ past)
   idle-cut idle = sym (now-idle k past (off idle))
 
+  -- and changes nothing
   pub idle-stands : k < c.quiet → Follows k c (Quiet ∷ past)
   idle-stands idle =
       let rests : runs k (Quiet ∷ past) ≡ false = rests-more k past (off idle) in
@@ -81,9 +87,11 @@ module _ (k : ℕ) (c : Cutter) (past : List Sample) (s : Follows k c past) wher
         kept = λ low. absurd (omega arith);
       }
 
+  -- a tick that isn't quiet tells nothing
   pub begins-cut : (x : Sample) → k < c.quiet → is_quiet x ≡ false → cuts.Nothing ≡ cut_now k (x ∷ past)
   begins-cut x idle pulse = sym (now-begins k x past pulse (off idle))
 
+  -- and begins a burst
   pub begins-stands : (x : Sample) → k < c.quiet → is_quiet x ≡ false → Follows k (begun c.samples x) (x ∷ past)
   begins-stands x idle pulse =
       let first : first_tick k (x ∷ past) ≡ length past = first_tick-begins k x past (off idle) pulse in
@@ -101,6 +109,7 @@ module _ (k : ℕ) (c : Cutter) (past : List Sample) (s : Follows k c past) wher
 
   -- ---- where a burst runs
 
+  -- a cutter within a burst knows that it runs
   pub on : c.quiet ≤ k → runs k past ≡ true
   on running = grind (arith, nat_tests, s.runs, running)
 
@@ -108,9 +117,11 @@ module _ (k : ℕ) (c : Cutter) (past : List Sample) (s : Follows k c past) wher
   ticks-of : c.quiet ≤ k → stopped past ≡ first_tick k past + (40 * c.slots + c.rest)
   ticks-of running = let here = s.here running in let same = s.quiet running in omega (arith, here, same)
 
+  -- a quiet tick that is bridged tells nothing
   pub pending-cut : c.quiet + 1 ≤ k → cuts.Nothing ≡ cut_now k (Quiet ∷ past)
   pending-cut few = let same : c.quiet ≡ quiet past = s.quiet (omega arith) in sym (now-pending k past (omega (arith, same, few)))
 
+  -- quiet tick k + 1 tells the end
   pub ended-cut : c.quiet ≡ k → cuts.Ended c.slots c.rest ≡ cut_now k (Quiet ∷ past)
   ended-cut all =
       let low : c.quiet ≤ k = omega arith in
@@ -120,6 +131,7 @@ module _ (k : ℕ) (c : Cutter) (past : List Sample) (s : Follows k c past) wher
       let rest : (stopped past - first_tick k past) % 40 ≡ c.rest = omega (arith, ticks, s.short) in
       sym (now-ended k past (on low) (omega (arith, same, all)) ∙ (rw (slots, rest) refl))
 
+  -- a quiet tick is written down and counted
   pub quiet-stands : (place : ℕ) → place ≡ c.rest + c.quiet → c.quiet ≤ k →
       Follows k record { samples = set c.samples (place % 40) Quiet; slots = c.slots; rest = c.rest; quiet = c.quiet + 1 } (Quiet ∷ past)
   quiet-stands place at running =
@@ -138,6 +150,7 @@ module _ (k : ℕ) (c : Cutter) (past : List Sample) (s : Follows k c past) wher
         kept = λ low. rw next (kept-next place c.samples past Quiet s.forty (rw at (s.kept running)));
       }
 
+  -- a tick that isn't quiet is written down, with the slots and the rest that it makes
   pub pulse-stands : (x : Sample) (place slots rest : ℕ) → is_quiet x ≡ false → place ≡ c.rest + c.quiet → c.quiet ≤ k →
       40 * slots + rest ≡ 40 * c.slots + (place + 1) → rest < 40 →
       Follows k record { samples = set c.samples (place % 40) x; slots = slots; rest = rest; quiet = 0 } (x ∷ past)
@@ -168,12 +181,14 @@ module _ (k : ℕ) (c : Cutter) (past : List Sample) (s : Follows k c past) wher
       let now : suc (length past) - first_tick k past ≡ 40 * c.slots + (place + 1) = omega (arith, here, at) in
       now-pulse k x past number pulse (on running) (rw (before, now) is)
 
+  -- before a slot's last place it tells nothing
   pub plain-cut : (x : Sample) (place : ℕ) → is_quiet x ≡ false → place ≡ c.rest + c.quiet → c.quiet ≤ k → place < 39 →
       cuts.Nothing ≡ cut_now k (x ∷ past)
   plain-cut x place pulse at running low =
       let within : (40 * c.slots + (place + 1)) / 40 ≡ (40 * c.slots + c.rest) / 40 = omega (arith, low, at) in
       sym (pulse-cut x place None pulse at running (grind (arith, nat_tests, within)))
 
+  -- from the last place on it tells a slot
   slot-at : (place : ℕ) → place ≡ c.rest + c.quiet → 39 ≤ place → place < 79 →
       slot_between (40 * c.slots + c.rest) (40 * c.slots + (place + 1)) ≡ Some c.slots
   slot-at place at high low =
@@ -181,6 +196,7 @@ module _ (k : ℕ) (c : Cutter) (past : List Sample) (s : Follows k c past) wher
       let now : (40 * c.slots + (place + 1)) / 40 ≡ suc c.slots = omega (arith, high, low) in
       rw (before, now) (grind (arith, nat_tests))
 
+  -- in the last place the slot has the word that the kept samples spell
   pub full-cut : (x : Sample) (place : ℕ) → is_quiet x ≡ false → place ≡ c.rest + c.quiet → c.quiet ≤ k → place ≡ 39 →
       cuts.Slot c.slots (word_in (set c.samples place x)) ≡ cut_now k (x ∷ past)
   unfolding slot_word
@@ -198,6 +214,7 @@ module _ (k : ℕ) (c : Cutter) (past : List Sample) (s : Follows k c past) wher
       rw full (ap word_in (slot ∙ sym kept ∙ whole)) in
       sym (cut ∙ ap (cuts.Slot c.slots) word)
 
+  -- after it the slot has no word
   pub crossed-cut : (x : Sample) (place : ℕ) → k ≤ 3 → is_quiet x ≡ false → place ≡ c.rest + c.quiet → c.quiet ≤ k → 39 < place →
       cuts.Slot c.slots None ≡ cut_now k (x ∷ past)
   unfolding slot_word
@@ -216,10 +233,12 @@ follows-quiet k c past (suc n) rests f =
     let idle : k < c.quiet = grind (arith, nat_tests, f.runs, rests) in
     idle-stands k c (quiet_ticks n ++ past) (follows-quiet k c past n rests f) idle
 
+-- so a cutter stands for the past with further quiet ticks
 pub stands-quiet : (k : ℕ) (c : Cutter) (past : List Sample) (n : ℕ) → runs k past ≡ false → CutterStands k c past → CutterStands k c (quiet_ticks n ++ past)
 unfolding CutterStands
 stands-quiet k c past n rests f = follows-quiet k c past n rests f
 
+-- the same by the quiet ticks
 pub quiet-alone-rests : (k : ℕ) (past : List Sample) → (k < quiet past) ⊎ (quiet past ≡ length past) → runs k past ≡ false
 quiet-alone-rests k past h = rests-from k past (elim h [
   | inl many ↦ inr many

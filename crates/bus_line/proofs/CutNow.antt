@@ -13,6 +13,7 @@ use Rattle.bus_line.proofs.SlotLaws.{burst-ticks, slots-count, burst_from-more}
 
 -- ---- the cases
 
+-- a quiet tick where no burst runs
 pub now-idle : (k : ℕ) (past : List Sample) → runs k past ≡ false → cut_now k (Quiet ∷ past) ≡ cuts.Nothing
 unfolding cut_now
 now-idle k past off =
@@ -21,12 +22,14 @@ now-idle k past off =
     let none : ended_now k (Quiet ∷ past) ≡ None = grind (arith, nat_tests, same, rests) in
     rw none refl
 
+-- a quiet tick that a burst bridges
 pub now-pending : (k : ℕ) (past : List Sample) → quiet past < k → cut_now k (Quiet ∷ past) ≡ cuts.Nothing
 unfolding cut_now
 now-pending k past few =
     let none : ended_now k (Quiet ∷ past) ≡ None = grind (arith, nat_tests, few) in
     rw none refl
 
+-- quiet tick k + 1 makes the end of the burst known that ran
 pub ended-more : (k : ℕ) (past : List Sample) → runs k past ≡ true → quiet past ≡ k → ended_now k (Quiet ∷ past) ≡ Some (newest_burst k past)
 ended-more k past on all =
     let more : stopped (Quiet ∷ past) ≡ stopped past = stopped-more past in
@@ -38,6 +41,7 @@ ended-more k past on all =
     let found : ended_now k (Quiet ∷ past) ≡ Some (newest_burst k (Quiet ∷ past)) = grind (arith, nat_tests, all, more, some) in
     found ∙ ap Some same
 
+-- and tells its slots and rest
 pub now-ended : (k : ℕ) (past : List Sample) → runs k past ≡ true → quiet past ≡ k →
     cut_now k (Quiet ∷ past) ≡ cuts.Ended ((stopped past - first_tick k past) / 40) ((stopped past - first_tick k past) % 40)
 unfolding cut_now
@@ -45,9 +49,11 @@ now-ended k past on all =
     rw (ended-more k past on all)
     (rw (slots-count past (first_tick k past) (stopped past - first_tick k past), burst-ticks past (first_tick k past) (stopped past - first_tick k past)) refl)
 
+-- a tick that isn't quiet makes no end known
 pub ended-none : (k : ℕ) (x : Sample) (past : List Sample) → is_quiet x ≡ false → ended_now k (x ∷ past) ≡ None
 ended-none k x past pulse = let none : quiet (x ∷ past) ≡ 0 = quiet-pulse x past pulse in grind (arith, nat_tests, none)
 
+-- the first tick of a burst
 pub now-begins : (k : ℕ) (x : Sample) (past : List Sample) → is_quiet x ≡ false → runs k past ≡ false → cut_now k (x ∷ past) ≡ cuts.Nothing
 unfolding cut_now
 now-begins k x past pulse off =
@@ -68,6 +74,7 @@ now-pulse k x past number pulse on is =
 
 -- ---- what a cut tells
 
+-- a cut tells what was looked up, by cases
 tells-of : (k : ℕ) (past : List Sample) (ended : Option Burst) (number : Option ℕ) → ended_now k past ≡ ended → slot_number k past ≡ number →
     ((burst : Burst) → ended ≡ Some burst → (number ≡ None) × (burst ≡ newest_burst k past)) → Tells k past (cut_of past (first_tick k past) ended number)
 tells-of k past None None e n alone = (e, ap (slot_of past (first_tick k past)) n)
@@ -76,12 +83,14 @@ tells-of k past (Some burst) number e n alone =
     let both : (number ≡ None) × (burst ≡ newest_burst k past) = alone burst refl in
     (e ∙ ap Some both.1, ap (slot_of past (first_tick k past)) (n ∙ both.0), ap (λ (b : Burst). length b.slots) (sym both.1), ap rest_of (sym both.1))
 
+-- where an end becomes known no slot ends
 no-slot : (k : ℕ) (past : List Sample) → quiet past ≡ suc k → slot_number k past ≡ None
 no-slot k [] q = refl
 no-slot k (Plus ∷ past) q = absurd (omega (arith, q))
 no-slot k (Minus ∷ past) q = absurd (omega (arith, q))
 no-slot k (Quiet ∷ past) q = refl
 
+-- the burst that is looked up is the newest, and no slot ends with it
 tells-quiet : (k : ℕ) (past : List Sample) (burst : Burst) → ended_now k past ≡ Some burst → (slot_number k past ≡ None) × (burst ≡ newest_burst k past)
 tells-quiet k past burst e = elim (cases_Bool ((quiet past == suc k) && nat_lt 0 (stopped past))) [
   | inr fails ↦ (let bad : ended_now k past ≡ None = rw fails refl in let f : None ≡ Some burst = sym bad ∙ e in cc)

@@ -12,16 +12,19 @@ use Rattle.bus_line.proofs.LookUpLaws.{ended-known}
 
 -- ---- one tick more
 
+-- what begins later has no end yet
 pub end_since-early : (k : ℕ) (past : List Sample) (a : ℕ) → length past ≤ a → end_since k past a ≡ None
 unfolding end_since
 end_since-early k [] a h = refl
 end_since-early k (x ∷ past) a h = let early : nat_lt (length past) a ≡ true = lt-ltb (length past) a (omega (arith, h)) in rw early refl
 
+-- the end with a tick more
 pub end_since-now : (k : ℕ) (x : Sample) (past : List Sample) (a : ℕ) → a ≤ length past →
     end_since k (x ∷ past) a ≡ end_or_now k (min (quiet (x ∷ past)) (suc (length past) - a)) (length past) (end_since k past a)
 unfolding end_since
 end_since-now k x past a h = let late : nat_lt (length past) a ≡ false = le-ltb (length past) a h in rw late refl
 
+-- a number was found, or none
 pub cases-option : (o : Option ℕ) → (o ≡ None) ⊎ ((e : ℕ) × (o ≡ Some e))
 cases-option None = inl refl
 cases-option (Some e) = inr (e, refl)
@@ -39,6 +42,7 @@ end_since-stays k x past a e h =
     let late : a < length past = end_since-late k past a e h in
     end_since-now k x past a (omega arith) ∙ (rw h refl)
 
+-- with any number of ticks more
 pub end_since-later : (k : ℕ) (later past : List Sample) (a e : ℕ) → end_since k past a ≡ Some e → end_since k (later ++ past) a ≡ Some e
 end_since-later k [] past a e h = h
 end_since-later k (x ∷ later) past a e h = end_since-stays k x (later ++ past) a e (end_since-later k later past a e h)
@@ -51,6 +55,7 @@ counted k past u few here =
     let below : quiet past ≤ length past = quiet-le past in
     (stopped past - 1, omega (arith, few, here), omega (arith, few, here), heard-last past (stopped past - 1) (omega (arith, few, here)))
 
+-- where no end is found, none was before, and too few quiet ticks came
 none-now : (k : ℕ) (x : Sample) (past : List Sample) (a : ℕ) → a ≤ length past → end_since k (x ∷ past) a ≡ None →
     (end_since k past a ≡ None) × (min (quiet (x ∷ past)) (suc (length past) - a) ≤ k)
 none-now k x past a late h = elim (cases-option (end_since k past a)) [
@@ -78,6 +83,7 @@ end_since-none k (x ∷ past) a u h low high =
       | inr new ↦ counted k (x ∷ past) u (omega (arith, parts.1, low, high, new)) (omega (arith, high, new))
     ]
 
+-- an end by tick numbers stays one with a tick more
 is-end-stays : (k : ℕ) (x : Sample) (past : List Sample) (a e : ℕ) → IsEndSince k past a e → IsEndSince k (x ∷ past) a e
 is-end-stays k x past a e is = record {
   from = is.from;
@@ -86,6 +92,7 @@ is-end-stays k x past a e is = record {
   first = λ u p q. let w = is.first u p q in (w.0, w.1, w.2, λ h. w.3 (sym (at-more x past w.0 (omega (arith, w.2, q, is.known))) ∙ h));
 }
 
+-- k + 1 quiet ticks in a row make it known
 is-end-now : (k : ℕ) (x : Sample) (past : List Sample) (a : ℕ) → a ≤ length past → end_since k past a ≡ None →
     k < min (quiet (x ∷ past)) (suc (length past) - a) → IsEndSince k (x ∷ past) a (length past - k)
 is-end-now k x past a late none many = record {
@@ -155,6 +162,7 @@ end_since-burst k past p n b known = end_since-found k past p (p + n) record {
   first = λ u q r. burst-heard k past p n u b q r;
 }
 
+-- in the tick in which the burst's end becomes known
 pub end_since-ended : (k : ℕ) (past : List Sample) (burst : Burst) → ended_now k past ≡ Some burst → end_since k past burst.first ≡ Some (end_of burst)
 end_since-ended k past burst h =
     let is : IsEndedNow k past burst.first burst.ticks = ended-known k past burst h in

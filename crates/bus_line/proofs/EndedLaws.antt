@@ -33,6 +33,7 @@ now-ends k c past w has =
     let long : length (on_channel c past) ≡ length past = length-on c past in
     (record { burst = rw at.1 is.burst; known = omega (arith, is.now, long); slots = rw at.1 cut }, omega (arith, is.now, long), at.1)
 
+-- it stays ended with a tick more
 ended-more : (k : ℕ) (shown : Pair) (past : List Pair) (w : WholeBurst) → IsEnded k past w → IsEnded k (shown ∷ past) w
 ended-more k shown past w is =
     let long : length (on_channel w.channel past) ≡ length past = length-on w.channel past in
@@ -43,6 +44,7 @@ ended-more k shown past w is =
       slots = is.slots ∙ sym same;
     }
 
+-- each burst in the list has ended
 pub bursts-found : (k : ℕ) (past : List Pair) (w : WholeBurst) → Contains (bursts k past) w → IsEnded k past w
 unfolding bursts
 bursts-found k [] w has = absurd (omega (arith, has.1))
@@ -57,6 +59,7 @@ bursts-found k (shown ∷ past) w has =
 
 -- ---- each ended burst is in the list
 
+-- what was in the list stays there
 pub bursts-later : (k : ℕ) (later past : List Pair) (w : WholeBurst) → Contains (bursts k past) w → Contains (bursts k (later ++ past)) w
 unfolding bursts
 bursts-later k [] past w has = has
@@ -64,6 +67,7 @@ bursts-later k (shown ∷ later) past w has =
     Contains-append_left (bursts k (later ++ past))
     (burst_now k A (shown ∷ (later ++ past)) ++ burst_now k B (shown ∷ (later ++ past))) w (bursts-later k later past w has)
 
+-- a burst of the newest tick is in the list, on either channel
 in-channel : (k : ℕ) (shown : Pair) (past : List Pair) (w : WholeBurst) (c : Channel) → Contains (burst_now k c (shown ∷ past)) w → Contains (bursts k (shown ∷ past)) w
 unfolding bursts
 in-channel k shown past w A has = Contains-append_right (bursts k past) (burst_now k A (shown ∷ past) ++ burst_now k B (shown ∷ past)) w
@@ -71,10 +75,12 @@ in-channel k shown past w A has = Contains-append_right (bursts k past) (burst_n
 in-channel k shown past w B has = Contains-append_right (bursts k past) (burst_now k A (shown ∷ past) ++ burst_now k B (shown ∷ past)) w
     (Contains-append_right (burst_now k A (shown ∷ past)) (burst_now k B (shown ∷ past)) w has)
 
+-- so is the one that is looked up in it
 in-now : (k : ℕ) (past : List Pair) (w : WholeBurst) → 0 < length past → ended_now k (on_channel w.channel past) ≡ Some w.burst → Contains (bursts k past) w
 in-now k [] w some is = absurd (omega (arith, some))
 in-now k (shown ∷ past) w some is = in-channel k shown past w w.channel (rw is (0, omega arith, refl))
 
+-- and the one whose end became known in an earlier part of the past
 in-parts : (k : ℕ) (later past : List Pair) (w : WholeBurst) → IsEnded k (later ++ past) w → end_of w.burst + suc k ≡ length past → Contains (bursts k (later ++ past)) w
 in-parts k later past w is now =
     let parts : on_channel w.channel (later ++ past) ≡ on_channel w.channel later ++ on_channel w.channel past = on-append w.channel later past in
@@ -87,6 +93,7 @@ in-parts k later past w is now =
     let ended = ended-all k (on_channel w.channel past) w.burst.first w.burst.ticks record { burst = burst; now = omega (arith, now, long) } in
     bursts-later k later past w (in-now k past w (omega (arith, now)) (ended ∙ ap Some (sym cut)))
 
+-- so each ended burst is in the list
 pub bursts-all : (k : ℕ) (past : List Pair) (w : WholeBurst) → IsEnded k past w → Contains (bursts k past) w
 bursts-all k past w is =
     let n : ℕ = length past - (end_of w.burst + suc k) in
@@ -115,6 +122,7 @@ old-first k c shown past v w has now =
     let new = now-ends k c (shown ∷ past) w now in
     omega (arith, old.known, new.1)
 
+-- bursts of one tick end together, on A and on B
 both-now : (k : ℕ) (shown : Pair) (past : List Pair) (v w : WholeBurst) → Contains (burst_now k A (shown ∷ past)) v →
     Contains (burst_now k B (shown ∷ past)) w → (end_of v.burst ≡ end_of w.burst) × (v.channel ≡ A) × (w.channel ≡ B)
 both-now k shown past v w a b =
@@ -122,6 +130,7 @@ both-now k shown past v w a b =
     let on_b = now-ends k B (shown ∷ past) w b in
     (omega (arith, on_a.1, on_b.1), on_a.2, on_b.2)
 
+-- so the list is in order
 pub bursts-order : (k : ℕ) (past : List Pair) → AllPairs EndsBefore (bursts k past)
 unfolding bursts
 bursts-order k [] = λ i j d a b. absurd (omega (arith, b))
@@ -135,5 +144,6 @@ bursts-order k (shown ∷ past) =
     ]) in
     subst (λ ws. AllPairs EndsBefore ws) (append_assoc (bursts k past) (burst_now k A (shown ∷ past)) (burst_now k B (shown ∷ past))) b_now
 
+-- the list is the reader's
 pub bursts-agree : (k : ℕ) (past : List Pair) → BurstsAgree k past
 bursts-agree k past = record { found = bursts-found k past; all = bursts-all k past; order = bursts-order k past }

@@ -8,33 +8,40 @@ use Rattle.bus_line.specs.Bursts.{IsQuietAt, IsHeardAt, IsFirstHeard}
 use Rattle.bus_line.proofs.EndLaws.{cases-option}
 use Rattle.bus_line.proofs.TickLaws.{at-past, at-now, at-more, heard-sample, pulse-sample, quiet-sample}
 
+-- what was heard is in the past
 pub heard-inside : (past : List Sample) (t : ℕ) → IsHeardAt past t → t < length past
 heard-inside past t heard = elim (cases_lt t (length past)) [
   | inl within ↦ within
   | inr out ↦ absurd (heard (at-past past t out))
 ]
 
+-- and stays heard with a tick more
 heard-more : (x : Sample) (past : List Sample) (t : ℕ) → IsHeardAt past t → IsHeardAt (x ∷ past) t
 heard-more x past t heard = λ e. heard (sym (at-more x past t (heard-inside past t heard)) ∙ e)
 
+-- the newest tick is heard where it isn't quiet
 heard-now : (x : Sample) (past : List Sample) → is_quiet x ≡ false → IsHeardAt (x ∷ past) (length past)
 heard-now x past pulse = λ e. heard-sample x pulse (sym (at-now x past) ∙ e)
 
 -- ---- between two ticks
 
+-- one tick more, from the first on
 within-now : (x : Sample) (past : List Sample) (a b : ℕ) → a ≤ length past →
     heard_within (x ∷ past) a b ≡ ((not (is_quiet x) && nat_lt (length past) b) || heard_within past a b)
 unfolding heard_within
 within-now x past a b late = let holds : nat_lt (length past) a ≡ false = le-ltb (length past) a late in rw holds refl
 
+-- and before it
 within-early : (x : Sample) (past : List Sample) (a b : ℕ) → length past < a → heard_within (x ∷ past) a b ≡ false
 unfolding heard_within
 within-early x past a b early = let holds : nat_lt (length past) a ≡ true = lt-ltb (length past) a early in rw holds refl
 
+-- nothing is heard in no ticks
 within-none : (a b : ℕ) → heard_within [] a b ≡ false
 unfolding heard_within
 within-none a b = refl
 
+-- where the test says so, some tick was heard
 pub heard_within-is : (past : List Sample) (a b : ℕ) → heard_within past a b ≡ true → (t : ℕ) × (a ≤ t) × (t < b) × IsHeardAt past t
 heard_within-is [] a b h = absurd (false≢true (sym (within-none a b) ∙ h))
 heard_within-is (x ∷ past) a b h = elim (cases_lt (length past) a) [
@@ -47,6 +54,7 @@ heard_within-is (x ∷ past) a b h = elim (cases_lt (length past) a) [
   ]
 ]
 
+-- and the other way
 pub heard_within-from : (past : List Sample) (a b t : ℕ) → a ≤ t → t < b → IsHeardAt past t → heard_within past a b ≡ true
 heard_within-from [] a b t low high heard = absurd (let within = heard-inside [] t heard in omega (arith, within))
 heard_within-from (x ∷ past) a b t low high heard =
@@ -64,10 +72,12 @@ heard_within-from (x ∷ past) a b t low high heard =
 
 -- ---- from a tick on
 
+-- one tick more, from the first on
 first-now : (x : Sample) (past : List Sample) (a : ℕ) → a ≤ length past → first_heard (x ∷ past) a ≡ heard_or_now x (length past) (first_heard past a)
 unfolding first_heard
 first-now x past a late = let holds : nat_lt (length past) a ≡ false = le-ltb (length past) a late in rw holds refl
 
+-- nothing is found later than the newest tick
 pub first_heard-early : (past : List Sample) (a : ℕ) → length past ≤ a → first_heard past a ≡ None
 unfolding first_heard
 first_heard-early [] a early = refl
@@ -80,11 +90,13 @@ first_heard-stays x past a t h = elim (cases_lt a (length past)) [
   | inr early ↦ (let none : None ≡ Some t = sym (first_heard-early past a early) ∙ h in cc)
 ]
 
+-- the first tick by numbers stays the first
 is-first-stays : (x : Sample) (past : List Sample) (a t : ℕ) → IsFirstHeard past a t → IsFirstHeard (x ∷ past) a t
 is-first-stays x past a t is =
     let inside = heard-inside past t is.heard in
     record { from = is.from; heard = heard-more x past t is.heard; before = λ u p q. at-more x past u (omega (arith, q, inside)) ∙ is.before u p q }
 
+-- where nothing was found, the newest tick is found or quiet
 cases-first : (x : Sample) (past : List Sample) (a : ℕ) → a ≤ length past → first_heard past a ≡ None →
     ((is_quiet x ≡ true) × (first_heard (x ∷ past) a ≡ None)) ⊎ ((is_quiet x ≡ false) × (first_heard (x ∷ past) a ≡ Some (length past)))
 cases-first x past a late none = elim (cases_Bool (is_quiet x)) [
@@ -92,6 +104,7 @@ cases-first x past a late none = elim (cases_Bool (is_quiet x)) [
   | inr pulse ↦ inr (pulse, first-now x past a late ∙ (rw (none, pulse) refl))
 ]
 
+-- where nothing is found, nothing was before
 none-before : (x : Sample) (past : List Sample) (a : ℕ) → first_heard (x ∷ past) a ≡ None → first_heard past a ≡ None
 none-before x past a h = elim (cases-option (first_heard past a)) [
   | inl none ↦ none
@@ -150,6 +163,7 @@ first_heard-found past a t is = elim (cases-option (first_heard past a)) [
   ])
 ]
 
+-- and the other way
 pub first_heard-quiet : (past : List Sample) (a : ℕ) → ((t : ℕ) → a ≤ t → IsQuietAt past t) → first_heard past a ≡ None
 first_heard-quiet past a quiet = elim (cases-option (first_heard past a)) [
   | inl none ↦ none

@@ -26,6 +26,7 @@ same-end k past p n q m b s low high = elim (cases_eq (p + n) (q + m)) [
   ])
 ]
 
+-- so a burst is a longest stretch
 pub burst-longest : (k : ℕ) (past : List Sample) (p n : ℕ) → IsBurst k past p n → IsLongest k past p n
 burst-longest k past p n b = record {
   stretch = b.stretch;
@@ -51,6 +52,7 @@ longer-before k past p n t s early near heard = record {
   ];
 }
 
+-- a tick after that isn't quiet likewise
 longer-after : (k : ℕ) (past : List Sample) (p n t : ℕ) → IsStretch k past p n → p + n ≤ t → t < p + n + suc k → t < length past → IsHeardAt past t →
     IsStretch k past p (suc t - p)
 longer-after k past p n t s late near within heard = record {
@@ -67,6 +69,7 @@ longer-after k past p n t s late near within heard = record {
   ];
 }
 
+-- so a longest stretch is a burst
 pub longest-burst : (k : ℕ) (past : List Sample) (p n : ℕ) → IsLongest k past p n → IsBurst k past p n
 longest-burst k past p n l = record {
   stretch = l.stretch;

@@ -13,6 +13,7 @@ use Rattle.bus_line.proofs.SlotLaws.{burst-ticks, burst-first}
 
 -- ---- ends
 
+-- after k + 1 quiet ticks the newest burst has just ended
 newest-ends : (k : ℕ) (past : List Sample) → quiet past ≡ suc k → 0 < stopped past → IsEndedNow k past (newest_burst k past).first (newest_burst k past).ticks
 newest-ends k past q some =
     let below : quiet past ≤ length past = quiet-le past in
@@ -26,6 +27,7 @@ cut-again : (past : List Sample) (p n : ℕ) → burst_from past p n ≡ burst_f
 unfolding burst_from
 cut-again past p n = refl
 
+-- a burst that is looked up has ended by tick numbers, and is cut out of the past
 ended-found : (k : ℕ) (past : List Sample) →
     IfSome (ended_now k past) (λ burst. IsEndedNow k past burst.first burst.ticks × (burst ≡ burst_from past burst.first burst.ticks))
 ended-found k past = elim (cases_Bool ((quiet past == suc k) && nat_lt 0 (stopped past))) [
@@ -36,12 +38,15 @@ ended-found k past = elim (cases_Bool ((quiet past == suc k) && nat_lt 0 (stoppe
   | inr fails ↦ rw fails tt
 ]
 
+-- its end became known in the newest tick
 pub ended-known : (k : ℕ) (past : List Sample) (burst : Burst) → ended_now k past ≡ Some burst → IsEndedNow k past burst.first burst.ticks
 ended-known k past burst h = let found = ended-found k past in (rw h at found).0
 
+-- it is cut out at its own ticks
 pub ended-is : (k : ℕ) (past : List Sample) (burst : Burst) → ended_now k past ≡ Some burst → burst ≡ burst_from past burst.first burst.ticks
 ended-is k past burst h = let found = ended-found k past in (rw h at found).1
 
+-- a burst that ended by tick numbers is looked up
 pub ended-all : (k : ℕ) (past : List Sample) (p n : ℕ) → IsEndedNow k past p n → ended_now k past ≡ Some (burst_from past p n)
 ended-all k past p n e =
     let stop : stopped past ≡ p + n = burst-stopped k past p n e.burst (λ t a b. e.burst.after t a (omega (arith, e.now))) in
@@ -52,6 +57,7 @@ ended-all k past p n e =
     let holds : ended_now k past ≡ Some (newest_burst k past) = grind (arith, nat_tests, q, some) in
     holds ∙ (rw (sym is.1, sym is.0) refl)
 
+-- so both are the same
 pub ends-agree : (k : ℕ) (past : List Sample) → EndsAgree k past
 ends-agree k past = record { found = ended-found k past; all = λ p n inside e. ended-all k past p n e }
 
@@ -69,6 +75,7 @@ between-some before now i h = elim (cases_lt (before / 40) (now / 40)) [
       let e : None ≡ Some i = sym fails ∙ h in cc)
 ]
 
+-- and the other way, where no two became whole
 between-is : (before now i : ℕ) → before < 40 * suc i → 40 * suc i ≤ now → now < 40 * suc (suc i) → slot_between before now ≡ Some i
 between-is before now i low whole high =
     let new : now / 40 ≡ suc i = omega (arith, whole, high) in
@@ -77,6 +84,7 @@ between-is before now i low whole high =
     let same : now / 40 - 1 ≡ i = omega (arith, new) in
     holds ∙ (rw same refl)
 
+-- a slot that is looked up ended in the newest tick by tick numbers
 pub slot-is-now : (k : ℕ) (x : Sample) (past : List Sample) (i : ℕ) → is_quiet x ≡ false → runs k past ≡ true →
     slot_between (stopped past - first_tick k past) (suc (length past) - first_tick k past) ≡ Some i →
     IsSlotNow k (x ∷ past) (first_tick k (x ∷ past)) i
@@ -94,11 +102,13 @@ slot-is-now k x past i pulse on found =
       since = λ t a b. at-more x past t (omega (arith, b)) ∙ quiet-since past t (omega (arith, a, first, parts.0));
     }
 
+-- the same, by the number that is looked up
 some-found : (k : ℕ) (x : Sample) (past : List Sample) (o : Option ℕ) → ((i : ℕ) → o ≡ Some i → IsSlotNow k (x ∷ past) (first_tick k (x ∷ past)) i) →
     IfSome o (λ i. IsSlotNow k (x ∷ past) (first_tick k (x ∷ past)) i)
 some-found k x past None found = tt
 some-found k x past (Some i) found = found i refl
 
+-- a slot that is looked up is one by tick numbers
 slot-found : (k : ℕ) (past : List Sample) → IfSome (slot_number k past) (λ i. IsSlotNow k past (first_tick k past) i)
 slot-found k [] = tt
 slot-found k (x ∷ past) = elim (cases_Bool (is_quiet x || not (runs k past))) [
@@ -127,6 +137,7 @@ slot-last k past p i small s = elim (cases_lt s.ticks (40 * suc (suc i))) [
       w.3 (s.since w.0 w.1 (omega (arith, w.2, s.now, long, small))))
 ]
 
+-- a slot that ended by tick numbers is looked up
 pub slot-all : (k : ℕ) (past : List Sample) (p i : ℕ) → k ≤ 39 → IsSlotNow k past p i → slot_number k past ≡ Some i
 slot-all k [] p i small s = absurd (omega (arith, s.now, s.burst.stretch.some))
 slot-all k (x ∷ past) p i small s =

@@ -7,6 +7,7 @@ use Rattle.bus_base.specs.declared.samples.Sample.{Sample}
 use Rattle.bus_base.specs.declared.samples.Sample.TheVariants.{Plus, Minus, Quiet}
 use Rattle.bus_line.specs.Past.{quiet, stopped, runs, first_tick}
 
+-- no more ticks were quiet than there were
 pub quiet-le : (past : List Sample) → quiet past ≤ length past
 quiet-le [] = omega arith
 quiet-le (Plus ∷ past) = omega arith
@@ -17,14 +18,17 @@ quiet-le (Quiet ∷ past) = let below : quiet past ≤ length past = quiet-le pa
 pub stopped-quiet : (past : List Sample) → stopped past + quiet past ≡ length past
 stopped-quiet past = let below : quiet past ≤ length past = quiet-le past in omega arith
 
+-- a tick that isn't quiet leaves no quiet ticks after it
 pub quiet-pulse : (x : Sample) (past : List Sample) → is_quiet x ≡ false → quiet (x ∷ past) ≡ 0
 quiet-pulse Plus past pulse = refl
 quiet-pulse Minus past pulse = refl
 quiet-pulse Quiet past pulse = absurd (grind (arith, pulse))
 
+-- a quiet tick moves no stop
 pub stopped-more : (past : List Sample) → stopped (Quiet ∷ past) ≡ stopped past
 stopped-more past = let below : quiet past ≤ length past = quiet-le past in omega arith
 
+-- a tick that isn't quiet is the last before the stop
 pub stopped-pulse : (x : Sample) (past : List Sample) → is_quiet x ≡ false → stopped (x ∷ past) ≡ suc (length past)
 stopped-pulse x past pulse = let none : quiet (x ∷ past) ≡ 0 = quiet-pulse x past pulse in omega (arith, none)
 
@@ -32,12 +36,15 @@ stopped-pulse x past pulse = let none : quiet (x ∷ past) ≡ 0 = quiet-pulse x
 pub runs-parts : (k : ℕ) (past : List Sample) → runs k past ≡ true → (0 < stopped past) × (quiet past ≤ k)
 runs-parts k past h = (grind (arith, nat_tests, h), grind (arith, nat_tests, h))
 
+-- and the other way
 pub runs-from : (k : ℕ) (past : List Sample) → 0 < stopped past → quiet past ≤ k → runs k past ≡ true
 runs-from k past some few = grind (arith, nat_tests, some, few)
 
+-- what it means that none runs: none was, or k + 1 quiet ticks came
 pub rests-parts : (k : ℕ) (past : List Sample) → runs k past ≡ false → (stopped past ≡ 0) ⊎ (k < quiet past)
 rests-parts k past h = grind (arith, nat_tests, h)
 
+-- and the other way
 pub rests-from : (k : ℕ) (past : List Sample) → (stopped past ≡ 0) ⊎ (k < quiet past) → runs k past ≡ false
 rests-from k past h = grind (arith, nat_tests, h)
 
@@ -64,6 +71,7 @@ first_tick-runs k Quiet past h = refl
 pub first_tick-begins : (k : ℕ) (x : Sample) (past : List Sample) → runs k past ≡ false → is_quiet x ≡ false → first_tick k (x ∷ past) ≡ length past
 first_tick-begins k x past h pulse = rw (pulse, h) refl
 
+-- a tick that isn't quiet belongs to the newest burst
 first_tick-pulse : (k : ℕ) (x : Sample) (past : List Sample) → is_quiet x ≡ false → (runs k past ≡ true → first_tick k past < stopped past) →
     first_tick k (x ∷ past) < suc (length past)
 first_tick-pulse k x past pulse before = elim (cases_Bool (runs k past)) [

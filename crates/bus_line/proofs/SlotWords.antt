@@ -21,6 +21,7 @@ slot-more k x past q s =
     let more = burst-more k x past s.first s.ticks s.burst in
     record { first = s.first; ticks = more.0; number = s.number; burst = more.2; place = s.place; whole = omega (arith, s.whole, more.1) }
 
+-- a slot is within the past
 pub slot-inside : (k : ℕ) (past : List Sample) (q : ℕ) → IsSlot k past q → q + 40 ≤ length past
 slot-inside k past q s = omega (arith, s.place, s.whole, s.burst.stretch.inside)
 
@@ -30,6 +31,7 @@ pub record IsWordNow (k : ℕ) (past : List Sample) (q : ℕ) (word : Word) : Ty
   pub spelled : Spells word (samples_from past q 40)
   pub now : q + 40 ≡ length past
 
+-- the parts of a slot that is looked up
 some-slot : (past : List Sample) (p : ℕ) (number : Option ℕ) (slot : Slot) → slot_of past p number ≡ Some slot →
     (i : ℕ) × (number ≡ Some i) × (slot.first ≡ p + 40 * i) × (slot.word ≡ slot_word past p i)
 some-slot past p None slot h = cc

@@ -12,6 +12,7 @@ use Rattle.bus_line.proofs.PastLaws.{quiet-le, stopped-more}
 pub at-past : (past : List Sample) (t : ℕ) → length past ≤ t → IsQuietAt past t
 at-past past t h = let no : nat_lt t (length past) ≡ false = le-ltb t (length past) h in rw no refl
 
+-- the newest tick shows the newest sample
 pub at-now : (x : Sample) (past : List Sample) → sample_at (x ∷ past) (length past) ≡ x
 at-now x past =
     let yes : nat_lt (length past) (suc (length past)) ≡ true = lt-ltb (length past) (suc (length past)) (omega arith) in
@@ -26,6 +27,7 @@ at-more x past t h =
     let place : suc (length past) - suc t ≡ suc (length past - suc t) = omega (arith, h) in
     rw (new, old, place) refl
 
+-- nor do any number of ticks more
 pub at-later : (later past : List Sample) (t : ℕ) → t < length past → sample_at (later ++ past) t ≡ sample_at past t
 at-later [] past t h = refl
 at-later (x ∷ later) past t h =
@@ -42,16 +44,19 @@ at-quiet past t = elim (cases_lt t (length past)) [
   ]
 ]
 
+-- the test for quiet says what it means
 pub heard-sample : (x : Sample) → is_quiet x ≡ false → x ≢ Quiet
 heard-sample Plus pulse e = cc
 heard-sample Minus pulse e = cc
 heard-sample Quiet pulse e = cc
 
+-- and the other way
 pub pulse-sample : (x : Sample) → x ≢ Quiet → is_quiet x ≡ false
 pulse-sample Plus heard = refl
 pulse-sample Minus heard = refl
 pulse-sample Quiet heard = absurd (heard refl)
 
+-- a sample that passes the test is quiet
 pub quiet-sample : (x : Sample) → is_quiet x ≡ true → x ≡ Quiet
 quiet-sample Plus q = cc
 quiet-sample Minus q = cc

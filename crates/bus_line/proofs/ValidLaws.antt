@@ -15,6 +15,7 @@ use Rattle.bus_line.proofs.SlotLaws.{samples-more}
 use Rattle.bus_line.proofs.ChannelLaws.{length-on, on-append}
 use Rattle.bus_line.proofs.SlotWords.{IsWordNow, slot-more, slot-inside, now-word, word-now, word-cut}
 
+-- a valid word that is made of a slot's word
 word-in : (c : Channel) (p : ℕ) (word : Option Word) (v : ValidWord) → Contains (valid_word c p word) v → (word ≡ Some v.word) × (v.first ≡ p) × (v.channel ≡ c)
 word-in c p None v has = absurd (omega (arith, has.1))
 word-in c p (Some word) v has =
@@ -27,6 +28,7 @@ now-in : (c : Channel) (o : Option Slot) (v : ValidWord) → Contains (valid_of 
 now-in c None v has = absurd (omega (arith, has.1))
 now-in c (Some slot) v has = let at = word-in c slot.first slot.word v has in (slot, refl, at.0, at.1, at.2)
 
+-- by tick numbers
 now-valid : (k : ℕ) (c : Channel) (shown : Pair) (past : List Pair) (v : ValidWord) → k ≤ 39 → Contains (valid_now k c (shown ∷ past)) v →
     IsWordNow k (on_channel c (shown ∷ past)) v.first v.word × (v.channel ≡ c)
 now-valid k c shown past v small has =
@@ -34,14 +36,17 @@ now-valid k c shown past v small has =
     let word = now-word k (sample_on shown c) (on_channel c past) at.0 v.word small at.1 at.2 in
     (rw at.3 word, at.4)
 
+-- so it is valid
 from-now : (k : ℕ) (c : Channel) (past : List Pair) (v : ValidWord) → v.channel ≡ c → IsWordNow k (on_channel c past) v.first v.word → IsValid k past v
 from-now k c past v on w = record { slot = rw on w.slot; spelled = rw on w.spelled }
 
+-- and stays valid with a tick more
 valid-more : (k : ℕ) (shown : Pair) (past : List Pair) (v : ValidWord) → IsValid k past v → IsValid k (shown ∷ past) v
 valid-more k shown past v is =
     let same = samples-more (sample_on shown v.channel) (on_channel v.channel past) v.first 40 (slot-inside k (on_channel v.channel past) v.first is.slot) in
     record { slot = slot-more k (sample_on shown v.channel) (on_channel v.channel past) v.first is.slot; spelled = rw same is.spelled }
 
+-- each word in the list is valid
 pub valid-found : (k : ℕ) (past : List Pair) (v : ValidWord) → k ≤ 39 → Contains (valid k past) v → IsValid k past v
 unfolding valid
 valid-found k [] v small has = absurd (omega (arith, has.1))
@@ -56,6 +61,7 @@ valid-found k (shown ∷ past) v small has =
 
 -- ---- each valid word is in the list
 
+-- a slot's word makes one valid word
 in-word : (c : Channel) (p : ℕ) (word : Word) (v : ValidWord) → v.word ≡ word → v.first ≡ p → v.channel ≡ c → Contains (valid_word c p (Some word)) v
 in-word c p word v a b d = (0, omega arith, rw (sym a, sym b, sym d) refl)
 
@@ -67,6 +73,7 @@ valid-later k (shown ∷ later) past v has =
     Contains-append_left (valid k (later ++ past))
     (valid_now k A (shown ∷ (later ++ past)) ++ valid_now k B (shown ∷ (later ++ past))) v (valid-later k later past v has)
 
+-- a valid word of the newest tick is in the list, on either channel
 in-channel : (k : ℕ) (shown : Pair) (past : List Pair) (v : ValidWord) (c : Channel) → v.channel ≡ c → Contains (valid_now k c (shown ∷ past)) v →
     Contains (valid k (shown ∷ past)) v
 unfolding valid
@@ -75,12 +82,14 @@ in-channel k shown past v A on has = Contains-append_right (valid k past) (valid
 in-channel k shown past v B on has = Contains-append_right (valid k past) (valid_now k A (shown ∷ past) ++ valid_now k B (shown ∷ past)) v
     (Contains-append_right (valid_now k A (shown ∷ past)) (valid_now k B (shown ∷ past)) v has)
 
+-- so is the word of a slot that ended in it
 in-now : (k : ℕ) (past : List Pair) (v : ValidWord) → k ≤ 39 → IsWordNow k (on_channel v.channel past) v.first v.word → Contains (valid k past) v
 in-now k [] v small w = absurd (omega (arith, w.now))
 in-now k (shown ∷ past) v small w =
     let found = word-now k (on_channel v.channel (shown ∷ past)) v.first v.word small w in
     in-channel k shown past v v.channel refl (rw found (in-word v.channel v.first v.word v refl refl refl))
 
+-- and the word of a slot that ended in an earlier part of the past
 in-parts : (k : ℕ) (later past : List Pair) (v : ValidWord) → k ≤ 39 → IsValid k (later ++ past) v → v.first + 40 ≡ length past → Contains (valid k (later ++ past)) v
 in-parts k later past v small is here =
     let parts : on_channel v.channel (later ++ past) ≡ on_channel v.channel later ++ on_channel v.channel past = on-append v.channel later past in
@@ -90,6 +99,7 @@ in-parts k later past v small is here =
     let word = word-cut k (on_channel v.channel later) (on_channel v.channel past) v.first v.word (rw parts at slot) (rw parts at spelled) (omega (arith, here, long)) in
     valid-later k later past v (in-now k past v small word)
 
+-- so each valid word is in the list
 pub valid-all : (k : ℕ) (past : List Pair) (v : ValidWord) → k ≤ 39 → IsValid k past v → Contains (valid k past) v
 valid-all k past v small is =
     let inside : v.first + 40 ≤ length (on_channel v.channel past) = slot-inside k (on_channel v.channel past) v.first is.slot in
@@ -103,6 +113,7 @@ valid-all k past v small is =
 
 -- ---- their order
 
+-- a word more at the end of an ordered list
 pairs-word : (c : Channel) (p : ℕ) (word : Option Word) (vs : List ValidWord) → AllPairs Precedes vs →
     ((v w : ValidWord) → Contains vs v → Contains (valid_word c p word) w → Precedes v w) → AllPairs Precedes (vs ++ valid_word c p word)
 pairs-word c p None vs old new = rw (append-nil vs) old
@@ -126,6 +137,7 @@ old-first k c shown past v w small has now =
     let long : length (on_channel c past) ≡ length past = length-on c past in
     omega (arith, inside, old, new.0.now, long)
 
+-- words of one tick end together, on A and on B
 both-now : (k : ℕ) (shown : Pair) (past : List Pair) (v w : ValidWord) → k ≤ 39 → Contains (valid_now k A (shown ∷ past)) v →
     Contains (valid_now k B (shown ∷ past)) w → (v.first ≡ w.first) × (v.channel ≡ A) × (w.channel ≡ B)
 both-now k shown past v w small a b =
@@ -135,6 +147,7 @@ both-now k shown past v w small a b =
     let long_b : length (on_channel B past) ≡ length past = length-on B past in
     (omega (arith, on_a.0.now, on_b.0.now, long_a, long_b), on_a.1, on_b.1)
 
+-- so the list is in order
 pub valid-order : (k : ℕ) (past : List Pair) → k ≤ 39 → AllPairs Precedes (valid k past)
 unfolding valid
 valid-order k [] small = λ i j d a b. absurd (omega (arith, b))
@@ -148,6 +161,7 @@ valid-order k (shown ∷ past) small =
     ]) in
     subst (λ vs. AllPairs Precedes vs) (append_assoc (valid k past) (valid_now k A (shown ∷ past)) (valid_now k B (shown ∷ past))) b_now
 
+-- the list is the reader's
 pub valid-agree : (k : ℕ) (past : List Pair) → k ≤ 39 → ValidAgree k past
 valid-agree k past small = record {
   found = λ v has. valid-found k past v small has;

@@ -21,7 +21,7 @@ pub fn spell(word: Word) -> [Sample; 40]
 {
     let mut samples = [Quiet; 40];
     for position in 0..samples.len() {
-        samples[position] = sample_of(word, position);
+        samples[position] = sample_at(word, position);
     }
     samples
 }
@@ -42,9 +42,16 @@ pub fn read_slot(samples: &[Sample; 40]) -> Option<Word>
     }
 }
 
-// The sample at a position of a word's spelling.
+/// The sample at a position of a word's spelling, 0 to 39, without making the others (MIL-STD-1553B 4.3.3.5).
+pub fn sample_of(word: Word, position: usize) -> Sample
+    requires { position < 40 }
+    ensures { result ≡ get_or (spelling word) position Quiet }
+{
+    sample_at(word, position)
+}
+
 #[tactic(auto, unfolding(crate::specs::Spelling::spelled))]
-fn sample_of(word: Word, position: usize) -> Sample
+fn sample_at(word: Word, position: usize) -> Sample
     requires { position < 40 }
     ensures { result ≡ spelled word position }
 {

@@ -1,4 +1,4 @@
-use Rattle.std.proofs.Common.{arith, sym}
+use Rattle.std.proofs.Common.{arith}
 use Rattle.std.proofs.lemmas.List.Edits.{map_over_more}
 use Rattle.bus_formats.specs.Plans.{without_subsystem}
 use Rattle.bus_formats.proofs.plan.clear_subsystems.Goals as goal

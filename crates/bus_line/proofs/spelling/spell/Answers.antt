@@ -10,7 +10,7 @@ loop-position-preserved c = record {
   forty = simp length-set c.loop-position.invariant.forty;
   done = below_more _ _
       (λ p h. let other : p ≢ c.loop-position.position = omega arith in rw get_or-set_other (c.loop-position.invariant.done p h))
-      (let within : c.loop-position.position < length c.loop-position.samples = omega arith in rw get_or-set_same c.sample_of.ensures);
+      (let within : c.loop-position.position < length c.loop-position.samples = omega arith in rw get_or-set_same c.sample_at.ensures);
 }
 
 pub returns-clause-value : goal.returns-clause-value
