@@ -1,3 +1,4 @@
 pub mod ReaderLaws
 pub mod WriterLaws
 pub mod RoundTrip
+pub mod QuietLaws

@@ -49,13 +49,13 @@ in-ticks at byte Between going begun room = grind (arith, nat_tests, begun, room
 in-ticks at byte (Half a) going begun room = grind (arith, nat_tests, begun, room)
 in-ticks at byte (Refused refusal) going begun room = refl
 
-feed-step : (bytes : List ℕ) (past : List Pair) → AtTicks bytes past → length bytes < text_limit → AtTicks (line_feed ∷ bytes) past
+pub feed-step : (bytes : List ℕ) (past : List Pair) → AtTicks bytes past → length bytes < text_limit → AtTicks (line_feed ∷ bytes) past
 feed-step bytes past at room =
     let step : (place_after (line_feed ∷ bytes) ≡ Between) × (ticks_in (line_feed ∷ bytes) ≡ ticks_in bytes) =
     next line_feed bytes Between Between None at.place (in-ticks (length bytes) line_feed Between refl at.begun room) in
     record { place = step.0; ticks = step.1 ∙ at.ticks; begun = omega (arith, at.begun) }
 
-pair-step : (shown : Pair) (bytes : List ℕ) (past : List Pair) → AtTicks bytes past → suc (length bytes) < text_limit →
+pub pair-step : (shown : Pair) (bytes : List ℕ) (past : List Pair) → AtTicks bytes past → suc (length bytes) < text_limit →
     AtTicks (sample_byte shown.b ∷ sample_byte shown.a ∷ bytes) (shown ∷ past)
 pair-step shown bytes past at room =
     let first : in_ticks (length bytes) (sample_byte shown.a) Between ≡ record { place = Half shown.a; tick = None } =

@@ -1,5 +1,5 @@
 //! The reader of capture texts, one byte at a time.
-ghost use Rattle.std.specs.Prelude.{◌≡◌, ◌<◌, ℕ, List, [], ◌∷◌};
+ghost use Rattle.std.specs.Prelude.{◌≡◌, ◌<◌, ◌≤◌, ◌+◌, ℕ, List, [], ◌∷◌, ◌++◌, take, length, reverse};
 ghost use Rattle.bus_capture.specs.Readings.{
   reached,
   sample_of,
@@ -12,8 +12,14 @@ ghost use Rattle.bus_capture.specs.Readings.{
   end_after,
   answer_at,
   answer_now,
+  place_after,
+  ticks_in,
 };
 ghost use Rattle.bus_capture.specs.Reader.{ReaderStands, after_byte};
+ghost use Rattle.bus_capture.specs.Quiet.{quiet_pairs, ReadsQuiet, TakesTick, step_in, tick_front};
+ghost use Rattle.bus_capture.specs.Readings.{text_limit};
+ghost use Rattle.bus_capture.specs.declared.reader.Place.TheVariants.{Between};
+ghost use Rattle.std.specs.Prelude.{IsTrue, MatchOption};
 
 use crate::refusal::CaptureRefusal;
 use bus_base::{Pair, Sample};
@@ -37,6 +43,15 @@ enum Place {
 struct Step {
     pub place: Place,
     pub tick: Option<Pair>,
+}
+
+/// Quiet ticks at the front of a piece of text.
+#[derive(Clone, Copy, Debug, PartialEq, Eq)]
+pub struct QuietRun {
+    /// The bytes that they take, with the line feeds between them.
+    pub bytes: usize,
+    /// Their number.
+    pub ticks: u64,
 }
 
 /// Reads a capture text byte by byte. It keeps counts and one sample, and takes no memory.
@@ -76,6 +91,48 @@ impl CaptureReader {
         self.ended()
     }
 
+    /// Takes the quiet ticks at the front of a piece of the text, with the line feeds between them, as `push` would take them byte by byte:
+    /// both channels are quiet in each of these ticks. None where the text stands elsewhere than between two ticks.
+    pub fn skip_quiet(&mut self, piece: &[u8]) -> QuietRun
+        ensures within { result.bytes ≤ length piece.now }
+        ensures stands { (bytes : List ℕ) → ReaderStands self.old bytes → ReaderStands self.new (reverse (take result.bytes piece.now) ++ bytes) }
+        ensures ticks { (bytes : List ℕ) → ReaderStands self.old bytes →
+            ticks_in (reverse (take result.bytes piece.now) ++ bytes) ≡ quiet_pairs result.ticks ++ ticks_in bytes }
+        ensures place { (bytes : List ℕ) → ReaderStands self.old bytes →
+            place_after (reverse (take result.bytes piece.now) ++ bytes) ≡ place_after bytes }
+    {
+        if !self.stands_between(piece.len()) {
+            return QuietRun { bytes: 0, ticks: 0 };
+        }
+        let run = quiet_front(piece);
+        self.at = self.at.saturating_add(run.bytes as u64);
+        self.ticks = self.ticks.saturating_add(run.ticks);
+        run
+    }
+
+    /// Takes the whole tick at the front of a piece of the text, as `push` would take its two bytes. None, and nothing is taken, where the text
+    /// stands elsewhere than between two ticks, or something else comes.
+    pub fn next_tick(&mut self, piece: &[u8]) -> Option<Pair>
+        ensures { MatchOption result (self.new ≡ self.old) (λ shown. (bytes : List ℕ) → ReaderStands self.old bytes →
+            TakesTick self.new piece.now bytes shown) }
+    {
+        if !self.stands_between(2) {
+            return None;
+        }
+        let shown = front_tick(piece)?;
+        self.at = self.at.saturating_add(2);
+        self.ticks = self.ticks.saturating_add(1);
+        Some(shown)
+    }
+
+    // Whether it stands between two ticks, and no text of so many bytes more is too long.
+    fn stands_between(&self, more: usize) -> bool
+        ensures { IsTrue result → (self.now.place ≡ Between) × (15 ≤ self.now.at) × (self.now.at + more ≤ text_limit) }
+    {
+        let room = LIMIT.saturating_sub(self.at);
+        self.place == Place::Between && self.at >= 15 && more as u64 <= room && self.at <= LIMIT
+    }
+
     fn take(&mut self, byte: u8) -> Result<Option<Pair>, CaptureRefusal>
         ensures state { self.new ≡ after_byte self.old byte }
         ensures answer { let step = one_byte self.old.at byte self.old.place in result ≡ answer_at step.place step.tick }
@@ -99,6 +156,48 @@ impl CaptureReader {
             Place::Between if self.at < 15 => Err(CaptureRefusal::Header(self.at)),
             Place::Between => Ok(self.ticks),
         }
+    }
+}
+
+// The quiet ticks at the front of a piece that begins between two ticks.
+fn quiet_front(piece: &[u8]) -> QuietRun
+    ensures within { result.bytes ≤ length piece.now }
+    ensures reads { ReadsQuiet (take result.bytes piece.now) result.ticks }
+{
+    let mut bytes = 0;
+    let mut ticks = 0;
+    'bytes: while bytes < piece.len() {
+        let next = quiet_step(&piece[bytes..]);
+        if next.bytes == 0 {
+            break 'bytes;
+        }
+        bytes += next.bytes;
+        ticks += next.ticks;
+    }
+    QuietRun { bytes, ticks }
+}
+
+// One quiet tick or one line feed at the front of a piece, if there is one.
+fn quiet_step(piece: &[u8]) -> QuietRun
+    ensures { result ≡ step_in piece.now }
+{
+    match piece {
+        [b'.', b'.', ..] => QuietRun { bytes: 2, ticks: 1 },
+        [b'\n', ..] => QuietRun { bytes: 1, ticks: 0 },
+        _ => QuietRun { bytes: 0, ticks: 0 },
+    }
+}
+
+// The tick that the first two bytes of a piece are, if they are one.
+fn front_tick(piece: &[u8]) -> Option<Pair>
+    ensures { result ≡ tick_front piece.now }
+{
+    match piece {
+        [a, b, ..] => Some(Pair {
+            a: sample(*a)?,
+            b: sample(*b)?,
+        }),
+        _ => None,
     }
 }
 

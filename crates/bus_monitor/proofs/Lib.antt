@@ -3,7 +3,9 @@ pub mod ChannelLaws
 pub mod MessageLaws
 pub mod LineLaws
 pub mod WordLaws
+pub mod QuietLaws
 pub mod ScribeLaws
+pub mod PieceLaws
 pub mod ListLaws
 pub mod OpeningLaws
 pub mod AwaitedLaws

@@ -8,6 +8,7 @@ use Rattle.bus_base.specs.declared.samples.Pair.{Pair}
 use Rattle.bus_outside.specs.Causes.{GrowsByFront}
 use Rattle.bus_outside.proofs.Writes.{appends_then, front_then}
 use Rattle.bus_capture.specs.Readings.{ticks_in, tick_now, place_after, answer_at, answer_now, end_after, text_limit}
+use Rattle.bus_capture.specs.Quiet.{TakesTick}
 use Rattle.bus_capture.specs.Reader.{ReaderStands, is_refused}
 use Rattle.bus_capture.specs.declared.refusal.CaptureRefusal.{CaptureRefusal}
 use Rattle.bus_capture.specs.declared.reader.CaptureReader.{CaptureReader}
@@ -94,6 +95,26 @@ module _ {L : Type 0} (stands : L → List Pair → Type 0) (lines : List Pair �
         written = record {
           done = w.done;
           made = ap lines is.1 ∙ more.1 ∙ ap (λ xs. xs ++ more.0) w.made ∙ append_assoc w.done text more.0 ∙ ap (λ xs. w.done ++ xs) (sym more.2);
+          added = w.added;
+        };
+      }
+
+  -- two bytes that are a tick
+  pub takes-pair : (reader reader' : CaptureReader) (lister lister' : L) (text text' piece : List ℕ) (bytes : List ℕ) (shown : Pair) →
+      Follows stands lines record { reader = reader; lister = lister; text = text } bytes first held → TakesTick reader' piece bytes shown →
+      (stands lister (ticks_in bytes) → stands lister' (shown ∷ ticks_in bytes)) →
+      (stands lister (ticks_in bytes) → (added : List ℕ) × (lines (shown ∷ ticks_in bytes) ≡ lines (ticks_in bytes) ++ added) × (text' ≡ text ++ added)) →
+      Holds stands lines record { reader = reader'; lister = lister'; text = text' } (reverse (take 2 piece) ++ bytes) first held
+  takes-pair reader reader' lister lister' text text' piece bytes shown f taken heard told =
+      let w : Written lines text bytes first held = f.holds.written in
+      let more : (added : List ℕ) × (lines (shown ∷ ticks_in bytes) ≡ lines (ticks_in bytes) ++ added) × (text' ≡ text ++ added) = told f.holds.lister in
+      record {
+        reader = taken.stands;
+        going = ap is_refused taken.between;
+        lister = subst (stands lister') (sym taken.ticks_are) (heard f.holds.lister);
+        written = record {
+          done = w.done;
+          made = ap lines taken.ticks_are ∙ more.1 ∙ ap (λ xs. xs ++ more.0) w.made ∙ append_assoc w.done text more.0 ∙ ap (λ xs. w.done ++ xs) (sym more.2);
           added = w.added;
         };
       }

@@ -1,5 +1,5 @@
 -- What a scribe has read and written: the lines that were made of the ticks, of which the last may still be held back; and what it ends with.
-use Rattle.std.specs.Prelude.{◌≡◌, ℕ, suc, ◌<◌, ◌≤◌, ◌⊎◌, false, List, ◌++◌, length, reverse, Option, Result, Ok, Err}
+use Rattle.std.specs.Prelude.{◌≡◌, ℕ, suc, ◌<◌, ◌≤◌, ◌⊎◌, false, List, ◌++◌, length, reverse, take, Option, Result, Ok, Err}
 use Rattle.std.specs.Io.KnownBytes.{Appends, Consumes, IsAtEnd}
 use Rattle.bus_base.specs.declared.samples.Pair.{Pair}
 use Rattle.bus_outside.specs.Causes.{GrowsByFront, Rose}
@@ -47,6 +47,13 @@ module _ {L : Type 0} (stands : L → List Pair → Type 0) (lines : List Pair �
   Took (Ok _) = Follows
   Took (Err (Refused refusal)) = (answer_now bytes ≡ Err refusal) × Written lines scribe.text bytes first held
   Took (Err WriteFault) = FrontWritten lines bytes first held
+
+-- after the front of a piece: it went on with so many bytes, or stopped somewhere in the piece
+abbrev pub TookSome : {L : Type 0} → (L → List Pair → Type 0) → (List Pair → List ℕ) → Scribe L → List ℕ → List ℕ → Option (List ℕ) → Option (List ℕ) →
+    Result ℕ Stop → Type 0
+TookSome stands lines scribe piece bytes first held (Ok count) =
+    (0 < count) × (count ≤ length piece) × Follows stands lines scribe (reverse (take count piece) ++ bytes) first held
+TookSome stands lines scribe piece bytes first held (Err stop) = Took stands lines scribe (reverse piece ++ bytes) first held {T = Unit {0}} (Err stop)
 
 -- a write fault has its cause in the count of the sink's faults
 pub record FaultHasCause {T : Type 0} (before now : ℕ) (result : Result T Stop) : Type 0 where

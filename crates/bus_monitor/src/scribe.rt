@@ -1,5 +1,6 @@
 //! The reading half of both listings: bytes become ticks, ticks become lines, lines go to the sink.
-ghost use Rattle.std.specs.Prelude.{◌≡◌, ◌<◌, ◌≤◌, ◌+◌, ◌^◌, ◌⊎◌, ℕ, List, [], ◌∷◌, ◌++◌, length, reverse, Option};
+ghost use Rattle.std.specs.Prelude.{◌≡◌, ◌<◌, ◌≤◌, ◌+◌, ◌^◌, ◌⊎◌, ℕ, Bool, true, List, [], ◌∷◌, ◌++◌, length, reverse, take, Option};
+ghost use Rattle.bus_capture.specs.Quiet.{quiet_pairs};
 ghost use Rattle.bus_base.specs.declared.samples.Pair.{Pair};
 ghost use Rattle.std.specs.Io.KnownBytes.{IsAtEnd};
 ghost use Rattle.bus_outside.specs.Causes.{WriteAdds, HasCause, Rose};
@@ -7,6 +8,7 @@ ghost use Rattle.bus_monitor.specs.Scribes.{
   Holds,
   Follows,
   Took,
+  TookSome,
   FaultHasCause,
   Owed,
   Closes,
@@ -32,6 +34,20 @@ pub(crate) trait Lister {
 
     /// The whole listing: those lines, and what the end of the ticks adds.
     ghost whole: { List Pair → List ℕ };
+
+    /// Whether a quiet tick completes no line, and changes nothing but the number of ticks.
+    ghost idle: { Self → Bool };
+
+    /// Whether it is idle.
+    fn is_idle(&self) -> bool
+        ensures { result ≡ idle self.now };
+
+    /// Hears so many ticks in which both channels are quiet, at once.
+    fn skip(&mut self, ticks: u64)
+        requires idle { idle self.old ≡ true }
+        requires past { (past : List Pair) × stands self.old past × (length past + ticks < 2 ^ 60) }
+        ensures stands { (past : List Pair) → stands self.old past → stands self.new (quiet_pairs ticks ++ past) }
+        ensures lines { (past : List Pair) → stands self.old past → lines (quiet_pairs ticks ++ past) ≡ lines past };
 
     /// Hears a tick, and adds the lines that it completes to the text.
     fn list(&mut self, shown: Pair, text: &mut Line)
@@ -103,13 +119,70 @@ impl<L: Lister> Scribe<L> {
             Took L.stands L.lines self.new (reverse piece.now ++ bytes) first (K.held sink.new) result }
         ensures cause { FaultHasCause (K.faults sink.old) (K.faults sink.new) result }
     {
-        for byte in piece {
-            match self.take(*byte, sink) {
-                Ok(()) => {}
+        let mut at = 0;
+        'bytes: while at < piece.len() {
+            match self.take_some(&piece[at..], sink) {
+                Ok(count) => at += count,
                 Err(stop) => return Err(stop),
             }
         }
         self.write_out(sink)
+    }
+
+    // Takes the front of a piece: the quiet ticks that are there, where nothing runs, and what follows them. How many bytes it took.
+    fn take_some<K: Sink>(&mut self, piece: &[u8], sink: &mut K) -> Result<usize, Stop>
+        requires some { 0 < length piece.now }
+        requires follows { (bytes : List ℕ) × (first : Option (List ℕ)) × Follows L.stands L.lines self.old bytes first (K.held sink.old) }
+        ensures took { (bytes : List ℕ) (first : Option (List ℕ)) → Follows L.stands L.lines self.old bytes first (K.held sink.old) →
+            TookSome L.stands L.lines self.new piece.now bytes first (K.held sink.new) result }
+        ensures cause { FaultHasCause (K.faults sink.old) (K.faults sink.new) result }
+    {
+        let quiet = self.skip_quiet(piece);
+        if quiet == piece.len() {
+            return Ok(quiet);
+        }
+        match self.take_next(&piece[quiet..], sink) {
+            Ok(count) => Ok(quiet + count),
+            Err(stop) => Err(stop),
+        }
+    }
+
+    // Takes the tick at the front of a piece, or the byte, where no whole tick stands there. How many bytes it took.
+    fn take_next<K: Sink>(&mut self, piece: &[u8], sink: &mut K) -> Result<usize, Stop>
+        requires some { 0 < length piece.now }
+        requires follows { (bytes : List ℕ) × (first : Option (List ℕ)) × Follows L.stands L.lines self.old bytes first (K.held sink.old) }
+        ensures took { (bytes : List ℕ) (first : Option (List ℕ)) → Follows L.stands L.lines self.old bytes first (K.held sink.old) →
+            TookSome L.stands L.lines self.new piece.now bytes first (K.held sink.new) result }
+        ensures cause { FaultHasCause (K.faults sink.old) (K.faults sink.new) result }
+    {
+        match self.reader.next_tick(piece) {
+            Some(shown) => {
+                self.lister.list(shown, &mut self.text);
+                match self.write_long(sink) {
+                    Ok(()) => Ok(2),
+                    Err(stop) => Err(stop),
+                }
+            }
+            None => match self.take(piece[0], sink) {
+                Ok(()) => Ok(1),
+                Err(stop) => Err(stop),
+            },
+        }
+    }
+
+    // Takes the quiet ticks at the front of a piece at once, where nothing runs. How many bytes it took.
+    fn skip_quiet(&mut self, piece: &[u8]) -> usize
+        requires { (bytes : List ℕ) × (first held : Option (List ℕ)) × Follows L.stands L.lines self.old bytes first held }
+        ensures within { result ≤ length piece.now }
+        ensures follows { (bytes : List ℕ) (first held : Option (List ℕ)) → Follows L.stands L.lines self.old bytes first held →
+            Follows L.stands L.lines self.new (reverse (take result piece.now) ++ bytes) first held }
+    {
+        if !self.lister.is_idle() {
+            return 0;
+        }
+        let quiet = self.reader.skip_quiet(piece);
+        self.lister.skip(quiet.ticks);
+        quiet.bytes
     }
 
     // Writes a text that leaves no room for another tick's lines.

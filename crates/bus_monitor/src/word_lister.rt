@@ -1,14 +1,15 @@
 //! The valid words of both channels, tick by tick.
-ghost use Rattle.std.specs.Prelude.{◌≡◌, ◌<◌, ◌^◌, ℕ, List, [], ◌∷◌, length};
+ghost use Rattle.std.specs.Prelude.{◌≡◌, ◌<◌, ◌+◌, ◌^◌, ℕ, true, nat_lt, List, [], ◌∷◌, ◌++◌, length};
+ghost use Rattle.bus_capture.specs.Quiet.{quiet_pairs};
 ghost use Rattle.bus_base.specs.declared.samples.Channel.TheVariants as channels;
 ghost use Rattle.bus_base.specs.declared.samples.Pair.{Pair};
 ghost use Rattle.bus_line.specs.declared.cutter.TheConstants.{LAG};
 ghost use Rattle.bus_monitor.specs.Progress.{heard_now};
-ghost use Rattle.bus_monitor.specs.Listers.{WordListerStands, heard_in};
+ghost use Rattle.bus_monitor.specs.Listers.{WordListerStands, heard_in, quiet_next};
 
-use bus_base::{Channel, Pair, Tick};
+use bus_base::{Channel, Pair, Sample, Tick};
 use bus_formats::Heard;
-use bus_line::{Cut, Cutter};
+use bus_line::{Cut, Cutter, LAG};
 
 /// Lists the valid words of both channels. It keeps the samples of the two slots that run, and takes no memory.
 #[derive(Drop)]
@@ -16,6 +17,8 @@ pub struct WordLister {
     a: Cutter,
     b: Cutter,
     ticks: u64,
+    // the ticks in a row up to now in which both channels were quiet, up to `LAG` + 1
+    quiet: u8,
 }
 
 impl WordLister {
@@ -27,6 +30,7 @@ impl WordLister {
             a: Cutter::new(),
             b: Cutter::new(),
             ticks: 0,
+            quiet: LAG + 1,
         }
     }
 
@@ -48,7 +52,34 @@ impl WordLister {
         let a = word_in(self.a.hear(heard.a), Channel::A, self.ticks);
         let b = word_in(self.b.hear(heard.b), Channel::B, self.ticks);
         self.ticks += 1;
+        self.quiet = quiet_after(self.quiet, heard);
         [a, b]
+    }
+
+    /// Whether no burst runs.
+    pub(crate) fn is_idle(&self) -> bool
+        ensures { result ≡ nat_lt LAG self.now.quiet }
+    {
+        LAG < self.quiet
+    }
+
+    /// Hears so many ticks at once in which both channels are quiet, where no burst runs: so no valid word ends in them.
+    pub(crate) fn skip(&mut self, ticks: u64)
+        requires idle { nat_lt LAG self.old.quiet ≡ true }
+        requires past { (past : List Pair) × WordListerStands self.old past × (length past + ticks < 2 ^ 60) }
+        ensures { (past : List Pair) → WordListerStands self.old past → WordListerStands self.new (quiet_pairs ticks ++ past) }
+    {
+        self.ticks += ticks;
+    }
+}
+
+// The quiet ticks in a row with one tick more.
+fn quiet_after(quiet: u8, heard: Pair) -> u8
+    ensures { result ≡ quiet_next quiet heard }
+{
+    match (heard.a, heard.b) {
+        (Sample::Quiet, Sample::Quiet) => quiet.saturating_add(1).min(LAG + 1),
+        _ => 0,
     }
 }
 

@@ -1,5 +1,5 @@
 //! The listing of the valid words of a capture.
-ghost use Rattle.std.specs.Prelude.{◌≡◌, ◌≤◌, ◌<◌, ◌+◌, ◌++◌, ◌^◌, length, flat_map, option_to_list, ℕ, List};
+ghost use Rattle.std.specs.Prelude.{◌≡◌, ◌≤◌, ◌<◌, ◌+◌, ◌++◌, ◌^◌, length, flat_map, nat_lt, option_to_list, ℕ, List};
 ghost use Rattle.bus_line.specs.declared.cutter.TheConstants.{LAG};
 ghost use Rattle.bus_text.specs.Texts.{word_line};
 ghost use Rattle.bus_monitor.specs.Listings.{word_listing};
@@ -30,6 +30,16 @@ impl Lister for WordLister {
     ghost lines = { word_lines LAG };
 
     ghost whole = { word_listing LAG };
+
+    ghost idle = { λ lister. nat_lt LAG lister.quiet };
+
+    fn is_idle(&self) -> bool {
+        self.is_idle()
+    }
+
+    fn skip(&mut self, ticks: u64) {
+        self.skip(ticks);
+    }
 
     fn list(&mut self, shown: Pair, text: &mut Line) {
         let [a, b] = self.hear(shown);

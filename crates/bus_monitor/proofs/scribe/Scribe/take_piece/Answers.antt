@@ -1,40 +1,57 @@
-use Rattle.std.proofs.Common.{◌≡◌, ◌<◌, ◌+◌, ℕ, List, ◌∷◌, ◌++◌, length, reverse, take, drop, get_or, arith, ap, sym, subst, ◌∙◌}
-use Rattle.std.specs.Prelude.{Err}
+use Rattle.std.proofs.Common.{◌≡◌, ◌<◌, ◌≤◌, ◌+◌, ℕ, List, ◌++◌, length, reverse, take, arith}
+use Rattle.std.specs.Prelude.{Option, Ok}
 use Rattle.std.proofs.lemmas.List.{take_all}
-use Rattle.bus_monitor.specs.Scribes.{Took}
-use Rattle.bus_monitor.proofs.ScribeLaws.{took-later, reverse-more, reverse-rest}
+use Rattle.bus_monitor.specs.Scribes.{Follows, TookSome}
+use Rattle.bus_monitor.proofs.PieceLaws.{some-after, stop-after}
 use Rattle.bus_monitor.proofs.scribe.Scribe.take_piece.Goals as goal
 
-pub take-requires : goal.take-requires
-take-requires g c =
-    (reverse (take c.loop-byte.byte-index c.args.piece.now) ++ c.requires.0, c.requires.1, c.loop-byte.invariant.0 c.requires.0 c.requires.1 c.requires.2)
+pub take_some-requires-clause-follows : goal.take_some-requires-clause-follows
+take_some-requires-clause-follows g c =
+    (reverse (take c.bytes.at c.args.piece.now) ++ c.requires.0, c.requires.1, c.bytes.invariant.0 c.requires.0 c.requires.1 c.requires.2)
+
+pub overflow_add-at : goal.overflow_add-at
+overflow_add-at g c =
+    let within : c.bytes.at < length c.args.piece.now = omega arith in
+    let took = some-after g.L.Lister.stands g.L.Lister.lines c.take_some.new.self c.args.piece.now c.requires.0 c.bytes.at c.in-Ok.count c.requires.1
+    (g.K.Sink.held c.take_some.new.sink) within
+    (c.in-Ok.ensures.took (reverse (take c.bytes.at c.args.piece.now) ++ c.requires.0) c.requires.1 (c.bytes.invariant.0 c.requires.0 c.requires.1 c.requires.2)) in
+    let inside : c.bytes.at + c.in-Ok.count ≤ length c.args.piece.now = took.1 in
+    omega (arith, inside)
+
+pub bytes-smaller : goal.bytes-smaller
+bytes-smaller g c =
+    let within : c.bytes.at < length c.args.piece.now = omega arith in
+    let took = some-after g.L.Lister.stands g.L.Lister.lines c.take_some.new.self c.args.piece.now c.requires.0 c.bytes.at c.in-Ok.count c.requires.1
+    (g.K.Sink.held c.take_some.new.sink) within
+    (c.in-Ok.ensures.took (reverse (take c.bytes.at c.args.piece.now) ++ c.requires.0) c.requires.1 (c.bytes.invariant.0 c.requires.0 c.requires.1 c.requires.2)) in
+    let inside : c.bytes.at + c.in-Ok.count ≤ length c.args.piece.now = took.1 in
+    let some : 0 < c.bytes.at + c.in-Ok.count = took.0 in
+    let counted : 0 < c.in-Ok.count =
+    (c.in-Ok.ensures.took (reverse (take c.bytes.at c.args.piece.now) ++ c.requires.0) c.requires.1 (c.bytes.invariant.0 c.requires.0 c.requires.1 c.requires.2)).0 in
+    omega (arith, inside, counted, within)
+
+pub bytes-preserved : goal.bytes-preserved
+bytes-preserved g c =
+    let within : c.bytes.at < length c.args.piece.now = omega arith in
+    let took : (bytes : List ℕ) (first : Option (List ℕ)) → Follows g.L.Lister.stands g.L.Lister.lines c.args.self.now bytes first (g.K.Sink.held c.args.sink.now) →
+    TookSome g.L.Lister.stands g.L.Lister.lines c.take_some.new.self c.args.piece.now bytes first (g.K.Sink.held c.take_some.new.sink) (Ok (c.bytes.at + c.in-Ok.count)) =
+    λ bytes first f.
+    some-after g.L.Lister.stands g.L.Lister.lines c.take_some.new.self c.args.piece.now bytes c.bytes.at c.in-Ok.count first
+    (g.K.Sink.held c.take_some.new.sink) within
+    (c.in-Ok.ensures.took (reverse (take c.bytes.at c.args.piece.now) ++ bytes) first (c.bytes.invariant.0 bytes first f)) in (
+      λ bytes first f. (took bytes first f).2,
+      omega (arith, c.take_some.ensures.cause.later, c.bytes.invariant.1),
+      (took c.requires.0 c.requires.1 c.requires.2).1,
+    )
 
 pub returns-in-Err-clause-took : goal.returns-in-Err-clause-took
 returns-in-Err-clause-took g c bytes first f =
-    let i : ℕ = c.loop-byte.byte-index in
-    let piece : List ℕ = c.args.piece.now in
-    let within : i < length piece = omega arith in
-    let all : reverse piece ++ bytes ≡ reverse (drop (i + 1) piece) ++ (get_or piece i 0 ∷ (reverse (take i piece) ++ bytes)) =
-    reverse-rest piece bytes (i + 1) ∙ ap (λ ys. reverse (drop (i + 1) piece) ++ ys) (reverse-more piece bytes i 0 within) in
-    let P : List ℕ → Type 0 = λ ys. Took g.L.Lister.stands g.L.Lister.lines c.take.new.self ys first (g.K.Sink.held c.take.new.sink) {T = Unit {0}} (Err c.in-Err.stop) in
-    subst P (sym all)
-    (took-later (Unit {0}) g.L.Lister.stands g.L.Lister.lines c.take.new.self (reverse (drop (i + 1) piece)) (get_or piece i 0 ∷ (reverse (take i piece) ++ bytes)) first
-    (g.K.Sink.held c.take.new.sink) c.in-Err.stop
-    (c.in-Err.ensures.took (reverse (take i piece) ++ bytes) first (c.loop-byte.invariant.0 bytes first f)))
-
-pub loop-byte-preserved : goal.loop-byte-preserved
-loop-byte-preserved g c =
-    let i : ℕ = c.loop-byte.byte-index in
-    let piece : List ℕ = c.args.piece.now in
-    let within : i < length piece = omega arith in (
-      λ bytes first f.
-          rw (reverse-more piece bytes i 0 within)
-          (c.in-Ok.ensures.took (reverse (take i piece) ++ bytes) first (c.loop-byte.invariant.0 bytes first f)),
-      omega (arith, c.take.ensures.cause.later, c.loop-byte.invariant.1),
-    )
+    stop-after g.L.Lister.stands g.L.Lister.lines c.take_some.new.self c.args.piece.now bytes c.bytes.at first
+    (g.K.Sink.held c.take_some.new.sink) c.in-Err.stop
+    (c.in-Err.ensures.took (reverse (take c.bytes.at c.args.piece.now) ++ bytes) first (c.bytes.invariant.0 bytes first f))
 
 pub returns-clause-took : goal.returns-clause-took
 returns-clause-took g c bytes first f =
-    let all : take c.loop-byte.byte-index c.args.piece.now ≡ c.args.piece.now = take_all c.loop-byte.byte-index c.args.piece.now (omega arith) in
-    let follows = rw all at (c.loop-byte.invariant.0 bytes first f) in
+    let all : take c.bytes.at c.args.piece.now ≡ c.args.piece.now = take_all c.bytes.at c.args.piece.now (omega arith) in
+    let follows = rw all at (c.bytes.invariant.0 bytes first f) in
     c.write_out.ensures.took (reverse c.args.piece.now ++ bytes) first follows.holds

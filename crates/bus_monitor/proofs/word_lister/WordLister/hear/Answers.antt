@@ -5,6 +5,7 @@ use Rattle.bus_line.specs.declared.cutter.TheConstants.{LAG}
 use Rattle.bus_monitor.specs.Progress.{heard_now}
 use Rattle.bus_monitor.proofs.ChannelLaws.{length-on_channel}
 use Rattle.bus_monitor.proofs.WordLaws.{heard-told}
+use Rattle.bus_monitor.proofs.QuietLaws.{quiet-next}
 use Rattle.bus_monitor.proofs.word_lister.WordLister.hear.Goals as goal
 
 pub hear-requires : goal.hear-requires
@@ -26,4 +27,5 @@ returns-clause-stands c past s = record {
   a = c.hear.ensures.stands (on_channel A past) s.a;
   b = c.hear-2.ensures.stands (on_channel B past) s.b;
   ticks = omega (arith, s.ticks);
+  quiet_is = rw c.quiet_after-self.ensures (quiet-next c.args.self.now.quiet c.args.heard past s.quiet_is);
 }

@@ -1,0 +1,190 @@
+-- Quiet ticks in a text are read at once as they are byte by byte.
+use Rattle.std.proofs.Common.{◌≡◌, ℕ, zero, suc, ◌+◌, ◌≤◌, List, [], ◌∷◌, ◌++◌, length, reverse, refl, ap, sym, ◌∙◌, arith, length-append}
+use Rattle.std.specs.Prelude.{Option, Some, None, ◌-◌, ◌^◌, min, ◌==◌, ◌&&◌, if◌then◌else◌, Bool, true, false, take, drop}
+use Rattle.std.proofs.lemmas.List.{reverse-append, append_assoc, length-reverse, take_rest, length-drop}
+use Rattle.std.proofs.lemmas.Bool.Decides.{nat_tests}
+use Rattle.std.proofs.Math.Seq.{take-add}
+use Rattle.bus_base.specs.declared.samples.Sample.{Sample}
+use Rattle.bus_base.specs.declared.samples.Sample.TheVariants.{Plus, Minus, Quiet}
+use Rattle.bus_base.specs.declared.samples.Pair.{Pair}
+use Rattle.std.proofs.lemmas.Grind.{common_steps}
+use Rattle.bus_capture.specs.Captures.{sample_byte}
+use Rattle.bus_capture.specs.Readings.{place_after, ticks_in, text_limit, sample_of}
+use Rattle.bus_capture.specs.Quiet.{quiet_pairs, ReadsQuiet, TakesTick, step_in, run_of, pair_of, tick_front}
+use Rattle.bus_capture.specs.declared.reader.QuietRun.{QuietRun}
+use Rattle.bus_capture.specs.declared.reader.Place.TheVariants.{Between}
+use Rattle.bus_capture.specs.Reader.{ReaderStands}
+use Rattle.bus_capture.specs.declared.reader.CaptureReader.{CaptureReader}
+use Rattle.bus_capture.proofs.ReaderLaws.{short}
+use Rattle.bus_capture.proofs.RoundTrip.{AtTicks, feed-step, pair-step}
+
+-- no bytes are no ticks
+pub quiet-none : ReadsQuiet [] 0
+quiet-none bytes place begun room = (place, refl)
+
+-- a line feed is no tick
+pub quiet-feed : ReadsQuiet (10 ∷ []) 0
+quiet-feed bytes place begun room =
+    let at : AtTicks (10 ∷ bytes) (ticks_in bytes) = feed-step bytes (ticks_in bytes) (record { place = place; ticks = refl; begun = begun }) (omega (arith, room)) in
+    (at.place, at.ticks)
+
+-- two full stops are a quiet tick
+pub quiet-tick : ReadsQuiet (46 ∷ 46 ∷ []) 1
+quiet-tick bytes place begun room =
+    let at : AtTicks (46 ∷ 46 ∷ bytes) (record { a = Quiet; b = Quiet } ∷ ticks_in bytes) =
+    pair-step (record { a = Quiet; b = Quiet }) bytes (ticks_in bytes) (record { place = place; ticks = refl; begun = begun }) (omega (arith, room)) in
+    (at.place, at.ticks)
+
+-- quiet ticks after quiet ticks
+quiet-sum : (m n : ℕ) → quiet_pairs m ++ quiet_pairs n ≡ quiet_pairs (n + m)
+quiet-sum zero n = let e : n + 0 ≡ n = omega arith in rw e refl
+quiet-sum (suc m) n =
+    let e : n + suc m ≡ suc (n + m) = omega arith in
+    rw e (ap (λ xs. record { a = Quiet; b = Quiet } ∷ xs) (quiet-sum m n))
+
+-- what is read in two parts is read whole
+pub quiet-parts : (front later : List ℕ) (ticks more : ℕ) → ReadsQuiet front ticks → ReadsQuiet later more → ReadsQuiet (front ++ later) (ticks + more)
+quiet-parts front later ticks more first second bytes place begun room =
+    let long : length (front ++ later) ≡ length front + length later = length-append front later in
+    let middle : (place_after (reverse front ++ bytes) ≡ Between) × (ticks_in (reverse front ++ bytes) ≡ quiet_pairs ticks ++ ticks_in bytes) =
+    first bytes place begun (omega (arith, room, long)) in
+    let same : length (reverse front ++ bytes) ≡ length front + length bytes = length-append (reverse front) bytes ∙ ap (λ n. n + length bytes) (length-reverse front) in
+    let last : (place_after (reverse later ++ (reverse front ++ bytes)) ≡ Between)
+    × (ticks_in (reverse later ++ (reverse front ++ bytes)) ≡ quiet_pairs more ++ ticks_in (reverse front ++ bytes)) =
+    second (reverse front ++ bytes) middle.0 (omega (arith, begun, same)) (omega (arith, room, long, same)) in
+    let whole : reverse (front ++ later) ++ bytes ≡ reverse later ++ (reverse front ++ bytes) =
+    ap (λ xs. xs ++ bytes) (reverse-append front later) ∙ append_assoc (reverse later) (reverse front) bytes in (
+      rw whole last.0,
+      rw whole (last.1 ∙ ap (λ xs. quiet_pairs more ++ xs) middle.1 ∙ sym (append_assoc (quiet_pairs more) (quiet_pairs ticks) (ticks_in bytes))
+          ∙ ap (λ xs. xs ++ ticks_in bytes) (quiet-sum more ticks)),
+    )
+
+-- what one step takes of a piece
+pub record IsStep (piece : List ℕ) (run : QuietRun) : Type 0 where
+  pub within : run.bytes ≤ length piece
+  pub few : run.ticks ≤ run.bytes
+  pub reads : ReadsQuiet (take run.bytes piece) run.ticks
+
+nothing : (piece : List ℕ) → IsStep piece (run_of 0 0)
+nothing piece = record { within = omega arith; few = omega arith; reads = quiet-none }
+
+feed-or-nothing : (a : ℕ) (rest : List ℕ) (feed : Bool) → (a == 10) ≡ feed → IsStep (a ∷ rest) (if feed then run_of 1 0 else run_of 0 0)
+feed-or-nothing a rest false is = nothing (a ∷ rest)
+feed-or-nothing a rest true is =
+    let e : a ≡ 10 = grind (arith, nat_tests, is) in
+    record { within = omega arith; few = omega arith; reads = rw e quiet-feed }
+
+pair-or-feed : (a b : ℕ) (rest : List ℕ) (first second : Bool) → (a == 46) ≡ first → (b == 46) ≡ second →
+    IsStep (a ∷ b ∷ rest) (if first && second then run_of 2 1 else if a == 10 then run_of 1 0 else run_of 0 0)
+pair-or-feed a b rest true true one two =
+    let e : a ≡ 46 = grind (arith, nat_tests, one) in
+    let f : b ≡ 46 = grind (arith, nat_tests, two) in
+    record { within = omega arith; few = omega arith; reads = rw (e, f) quiet-tick }
+pair-or-feed a b rest true false one two = feed-or-nothing a (b ∷ rest) (a == 10) refl
+pair-or-feed a b rest false second one two = feed-or-nothing a (b ∷ rest) (a == 10) refl
+
+-- a step reads quiet ticks
+pub step-is : (piece : List ℕ) → IsStep piece (step_in piece)
+step-is [] = nothing []
+step-is (a ∷ []) = feed-or-nothing a [] (a == 10) refl
+step-is (a ∷ b ∷ rest) = pair-or-feed a b rest (a == 46) (b == 46) refl refl
+
+-- a step after what was taken before, with what it took
+pub taken-more : (piece : List ℕ) (bytes ticks : ℕ) (next : QuietRun) → bytes ≤ length piece → ticks ≤ bytes → ReadsQuiet (take bytes piece) ticks →
+    next ≡ step_in (take (length piece - bytes) (drop bytes piece)) → IsStep piece (run_of (bytes + next.bytes) (ticks + next.ticks))
+taken-more piece bytes ticks next within few reads is =
+    let e : next ≡ step_in (drop bytes piece) = is ∙ ap step_in (take_rest piece bytes) in
+    let step : IsStep (drop bytes piece) next = rw e (step-is (drop bytes piece)) in
+    let long : length (drop bytes piece) ≡ length piece - bytes = length-drop bytes piece in
+    let inside : next.bytes ≤ length (drop bytes piece) = step.within in
+    let less : next.ticks ≤ next.bytes = step.few in
+    record {
+      within = omega (arith, within, inside, long);
+      few = omega (arith, few, less);
+      reads = rw (take-add bytes next.bytes piece) (quiet-parts (take bytes piece) (take next.bytes (drop bytes piece)) ticks next.ticks reads step.reads);
+    }
+
+long-quiet : (n : ℕ) → length (quiet_pairs n) ≡ n
+long-quiet zero = refl
+long-quiet (suc n) = ap suc (long-quiet n)
+
+-- what a front of quiet ticks leaves
+pub record IsSkipped (front bytes : List ℕ) (ticks : ℕ) : Type 0 where
+  pub place : place_after (reverse front ++ bytes) ≡ place_after bytes
+  pub ticks_are : ticks_in (reverse front ++ bytes) ≡ quiet_pairs ticks ++ ticks_in bytes
+
+-- a reader between two ticks takes them
+pub skips : (r : CaptureReader) (front bytes : List ℕ) (ticks : ℕ) → ReaderStands r bytes → r.place ≡ Between → 15 ≤ r.at →
+    r.at + length front ≤ text_limit → ReadsQuiet front ticks → IsSkipped front bytes ticks
+skips r front bytes ticks stands place begun room reads =
+    let between : place_after bytes ≡ Between = sym stands.place ∙ place in
+    let at : r.at ≡ length bytes = stands.at (rw between refl) in
+    let read : (place_after (reverse front ++ bytes) ≡ Between) × (ticks_in (reverse front ++ bytes) ≡ quiet_pairs ticks ++ ticks_in bytes) =
+    reads bytes between (omega (arith, begun, at)) (omega (arith, room, at)) in
+    record { place = read.0 ∙ sym between; ticks_are = read.1 }
+
+-- and stands for them, with its counts of bytes and ticks
+pub reader-skips : (r : CaptureReader) (front bytes : List ℕ) (ticks at more : ℕ) → ReaderStands r bytes → r.place ≡ Between → 15 ≤ r.at →
+    r.at + length front ≤ text_limit → ReadsQuiet front ticks → at ≡ min (r.at + length front) (2 ^ 64 - 1) → more ≡ min (r.ticks + ticks) (2 ^ 64 - 1) →
+    ReaderStands record { place = r.place; at = at; ticks = more } (reverse front ++ bytes)
+reader-skips r front bytes ticks at more stands place begun room reads at_is more_is =
+    let skipped : IsSkipped front bytes ticks = skips r front bytes ticks stands place begun room reads in
+    let long : length (reverse front ++ bytes) ≡ length front + length bytes =
+    length-append (reverse front) bytes ∙ ap (λ n. n + length bytes) (length-reverse front) in
+    let between : place_after bytes ≡ Between = sym stands.place ∙ place in
+    let here : r.at ≡ length bytes = stands.at (rw between refl) in
+    let count : length (ticks_in (reverse front ++ bytes)) ≡ ticks + length (ticks_in bytes) =
+    ap length skipped.ticks_are ∙ (length-append (quiet_pairs ticks) (ticks_in bytes) ∙ ap (λ n. n + length (ticks_in bytes)) (long-quiet ticks)) in
+    let few : length (ticks_in (reverse front ++ bytes)) ≤ text_limit = (short (reverse front ++ bytes)).few in
+    let were : r.ticks ≡ length (ticks_in bytes) = stands.ticks in
+    record {
+      place = stands.place ∙ sym skipped.place;
+      ticks = omega (arith, count, few, were, more_is);
+      at = λ going. omega (arith, long, here, room, at_is);
+    }
+
+-- ---- one tick
+
+-- the byte that writes a sample
+byte-of : (byte : ℕ) (s : Sample) → sample_of byte ≡ Some s → byte ≡ sample_byte s
+byte-of byte Plus is = grind (arith, nat_tests, common_steps, is)
+byte-of byte Minus is = grind (arith, nat_tests, common_steps, is)
+byte-of byte Quiet is = grind (arith, nat_tests, common_steps, is)
+
+-- two bytes that are a tick, of which the samples are known
+pair-taken : (r : CaptureReader) (a b : ℕ) (rest bytes : List ℕ) (x y : Option Sample) (shown : Pair) (at ticks : ℕ) → sample_of a ≡ x → sample_of b ≡ y →
+    pair_of x y ≡ Some shown → ReaderStands r bytes → r.place ≡ Between → 15 ≤ r.at → r.at + 2 ≤ text_limit →
+    at ≡ min (r.at + 2) (2 ^ 64 - 1) → ticks ≡ min (r.ticks + 1) (2 ^ 64 - 1) →
+    TakesTick record { place = r.place; at = at; ticks = ticks } (a ∷ b ∷ rest) bytes shown
+pair-taken r a b rest bytes None y shown at ticks one two is s place begun room at_is ticks_is = absurd (cc)
+pair-taken r a b rest bytes (Some x) None shown at ticks one two is s place begun room at_is ticks_is = absurd (cc)
+pair-taken r a b rest bytes (Some x) (Some y) shown at ticks one two is s place begun room at_is ticks_is =
+    let both : record { a = x; b = y } ≡ shown = cc in
+    let first : a ≡ sample_byte x = byte-of a x one in
+    let second : b ≡ sample_byte y = byte-of b y two in
+    let between : place_after bytes ≡ Between = sym s.place ∙ place in
+    let here : r.at ≡ length bytes = s.at (rw between refl) in
+    let read : AtTicks (sample_byte y ∷ sample_byte x ∷ bytes) (record { a = x; b = y } ∷ ticks_in bytes) =
+    pair-step (record { a = x; b = y }) bytes (ticks_in bytes) (record { place = between; ticks = refl; begun = omega (arith, begun, here) }) (omega (arith, room, here)) in
+    let few : length (ticks_in (sample_byte y ∷ sample_byte x ∷ bytes)) ≤ text_limit = (short (sample_byte y ∷ sample_byte x ∷ bytes)).few in
+    let more : length (ticks_in (sample_byte y ∷ sample_byte x ∷ bytes)) ≡ suc (length (ticks_in bytes)) = ap length read.ticks in
+    let were : r.ticks ≡ length (ticks_in bytes) = s.ticks in
+    rw (first, second, sym both) record {
+      whole = omega arith;
+      stands = record {
+        place = place ∙ sym read.place;
+        ticks = omega (arith, few, more, were, ticks_is);
+        at = λ going. omega (arith, here, room, at_is);
+      };
+      ticks_are = read.ticks;
+      between = read.place;
+    }
+
+-- the tick at the front of a piece is taken
+pub tick-taken : (r : CaptureReader) (piece bytes : List ℕ) (shown : Pair) (at ticks : ℕ) → tick_front piece ≡ Some shown →
+    ReaderStands r bytes → r.place ≡ Between → 15 ≤ r.at → r.at + 2 ≤ text_limit →
+    at ≡ min (r.at + 2) (2 ^ 64 - 1) → ticks ≡ min (r.ticks + 1) (2 ^ 64 - 1) →
+    TakesTick record { place = r.place; at = at; ticks = ticks } piece bytes shown
+tick-taken r [] bytes shown at ticks is = absurd (cc)
+tick-taken r (a ∷ []) bytes shown at ticks is = absurd (cc)
+tick-taken r (a ∷ b ∷ rest) bytes shown at ticks is = pair-taken r a b rest bytes (sample_of a) (sample_of b) shown at ticks refl refl is

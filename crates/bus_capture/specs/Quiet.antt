@@ -1,0 +1,47 @@
+-- Ticks at the front of a piece of text: what a reader may take at once.
+use Rattle.std.specs.Prelude.{◌≡◌, ℕ, zero, suc, ◌+◌, ◌≤◌, ◌==◌, ◌&&◌, if◌then◌else◌, List, [], ◌∷◌, ◌++◌, length, reverse, take, Option, Some, None}
+use Rattle.bus_base.specs.declared.samples.Pair.{Pair}
+use Rattle.bus_base.specs.declared.samples.Sample.TheVariants.{Quiet}
+use Rattle.bus_base.specs.declared.samples.Sample.{Sample}
+use Rattle.bus_capture.specs.Readings.{place_after, ticks_in, text_limit, sample_of}
+use Rattle.bus_capture.specs.Reader.{ReaderStands}
+use Rattle.bus_capture.specs.declared.reader.CaptureReader.{CaptureReader}
+use Rattle.bus_capture.specs.declared.reader.Place.TheVariants.{Between}
+use Rattle.bus_capture.specs.declared.reader.QuietRun.{QuietRun}
+
+-- so many ticks in which both channels are quiet
+abbrev pub quiet_pairs : ℕ → List Pair
+quiet_pairs zero = []
+quiet_pairs (suc n) = record { a = Quiet; b = Quiet } ∷ quiet_pairs n
+
+-- these bytes, in their order, are so many quiet ticks and line feeds between them, wherever they follow whole ticks in a text
+abbrev pub ReadsQuiet : List ℕ → ℕ → Type 0
+ReadsQuiet front ticks = (bytes : List ℕ) → place_after bytes ≡ Between → 15 ≤ length bytes → length bytes + length front ≤ text_limit →
+    (place_after (reverse front ++ bytes) ≡ Between) × (ticks_in (reverse front ++ bytes) ≡ quiet_pairs ticks ++ ticks_in bytes)
+
+-- a reader took the two bytes of one tick at the front of a piece, after these bytes
+pub record TakesTick (reader : CaptureReader) (piece bytes : List ℕ) (shown : Pair) : Type 0 where
+  pub whole : 2 ≤ length piece
+  pub stands : ReaderStands reader (reverse (take 2 piece) ++ bytes)
+  pub ticks_are : ticks_in (reverse (take 2 piece) ++ bytes) ≡ shown ∷ ticks_in bytes
+  pub between : place_after (reverse (take 2 piece) ++ bytes) ≡ Between
+
+-- ---- steps of the code
+
+abbrev pub pair_of : Option Sample → Option Sample → Option Pair
+pair_of (Some a) (Some b) = Some record { a = a; b = b }
+pair_of _ _ = None
+
+-- the tick that the first two bytes are, if they are one
+abbrev pub tick_front : List ℕ → Option Pair
+tick_front (a ∷ b ∷ rest) = pair_of (sample_of a) (sample_of b)
+tick_front _ = None
+
+abbrev pub run_of : ℕ → ℕ → QuietRun
+run_of bytes ticks = record { bytes = bytes; ticks = ticks }
+
+-- one quiet tick or one line feed at the front, if there is one
+abbrev pub step_in : List ℕ → QuietRun
+step_in [] = run_of 0 0
+step_in (a ∷ []) = if a == 10 then run_of 1 0 else run_of 0 0
+step_in (a ∷ b ∷ rest) = if (a == 46) && (b == 46) then run_of 2 1 else if a == 10 then run_of 1 0 else run_of 0 0
