@@ -1,11 +1,11 @@
 -- The message that still waits tells what closes.
-use Rattle.std.proofs.Common.{◌≡◌, ℕ, suc, ◌+◌, ◌<◌, ◌≤◌, List, [], ◌∷◌, ◌++◌, length, refl, ap, sym, ◌∙◌, arith}
+use Rattle.std.proofs.Common.{◌≡◌, ℕ, suc, ◌+◌, ◌<◌, List, [], ◌∷◌, length, refl, ap, sym, ◌∙◌, arith}
 use Rattle.std.specs.Prelude.{Bool, true, false, not, nat_lt, nat_le, ◌==◌, ◌&&◌, if◌then◌else◌, Option, Some, None}
 use Rattle.std.proofs.lemmas.Bool.Decides.{nat_tests}
 use Rattle.bus_base.specs.declared.samples.Sample.{Sample}
-use Rattle.bus_line.specs.Past.{Burst, runs, first_tick, ended_now, end_of}
+use Rattle.bus_line.specs.Past.{Burst, runs, first_tick, ended_now}
 use Rattle.bus_formats.specs.Times.{no_response}
-use Rattle.bus_monitor.specs.Messages.{Closed, Waiting, waits, opened, opens, opening, closed_by, waits_after, answer_read, is_answer, answered_late, unanswered}
+use Rattle.bus_monitor.specs.Messages.{Waiting, waits, is_answer, unanswered}
 use Rattle.bus_monitor.specs.Listings.{running_on}
 use Rattle.bus_monitor.specs.Progress.{waits_after_end, waiting, closed_at_burst, closed_in_time, closed_with, closed_now}
 use Rattle.bus_monitor.specs.Awaited.{still, awaited, closes_of, waits_of, kept_in_time}

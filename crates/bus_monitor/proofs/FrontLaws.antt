@@ -1,11 +1,10 @@
 -- The first 34 slots of a burst tell which message it opens: none is opened by more than 33.
-use Rattle.std.proofs.Common.{◌≡◌, ℕ, zero, suc, ◌<◌, ◌≤◌, List, [], ◌∷◌, length, take, refl, ap, arith}
+use Rattle.std.proofs.Common.{◌≡◌, ℕ, zero, suc, ◌<◌, List, [], ◌∷◌, take, refl, ap, arith}
 use Rattle.std.specs.Prelude.{Bool, true, false, if◌then◌else◌, Option, Some, None}
 use Rattle.std.proofs.lemmas.Bool.Decides.{nat_tests}
 use Rattle.bus_words.specs.Fields.{word_count, is_mode, is_transmit}
 use Rattle.bus_words.specs.declared.word.Word.{Word}
 use Rattle.bus_formats.specs.Readings.{command_in, datum_in, data_in, word_before}
-use Rattle.bus_formats.specs.declared.plan.Kind.{Kind}
 use Rattle.bus_monitor.specs.Messages.{message_of, command_message, mode_message, transmit_message, receive_message, relay_message}
 
 pub data-front : (n m : ℕ) (slots : List (Option Word)) → n < m → data_in n (take m slots) ≡ data_in n slots

@@ -8,3 +8,7 @@ pub mod ListLaws
 pub mod OpeningLaws
 pub mod AwaitedLaws
 pub mod FrontLaws
+pub mod ReadingLaws
+pub mod StepLaws
+pub mod ListerLaws
+pub mod OpenLaws

@@ -1,4 +1,4 @@
-use Rattle.std.proofs.Common.{◌≡◌, ◌<◌, ◌-◌, ◌+◌, ◌∷◌, ◌++◌, [], ap, length-append, length, drop, get_or, arith, sym, ◌∙◌, add-one}
+use Rattle.std.proofs.Common.{◌≡◌, ◌<◌, ◌+◌, ◌∷◌, ◌++◌, [], ap, length-append, length, arith, sym, ◌∙◌, add-one}
 use Rattle.std.specs.Prelude.{None}
 use Rattle.bus_monitor.proofs.OpeningLaws.{data-long, data-none, data-word}
 use Rattle.bus_monitor.proofs.opening.data_in.Goals as goal
