@@ -1,5 +1,5 @@
 -- Quiet ticks in a text are read at once as they are byte by byte.
-use Rattle.std.proofs.Common.{◌≡◌, ℕ, zero, suc, ◌+◌, ◌≤◌, List, [], ◌∷◌, ◌++◌, length, reverse, refl, ap, sym, ◌∙◌, arith, length-append}
+use Rattle.std.proofs.Common.{◌≡◌, ℕ, zero, suc, ◌+◌, ◌≤◌, List, [], ◌∷◌, ◌++◌, length, reverse, refl, ap, sym, subst, ◌∙◌, arith, length-append}
 use Rattle.std.specs.Prelude.{Option, Some, None, ◌-◌, ◌^◌, min, ◌==◌, ◌&&◌, if◌then◌else◌, Bool, true, false, take, drop}
 use Rattle.std.proofs.lemmas.List.{reverse-append, append_assoc, length-reverse, take_rest, length-drop}
 use Rattle.std.proofs.lemmas.Bool.Decides.{nat_tests}
@@ -10,7 +10,7 @@ use Rattle.bus_base.specs.declared.samples.Pair.{Pair}
 use Rattle.std.proofs.lemmas.Grind.{common_steps}
 use Rattle.bus_capture.specs.Captures.{sample_byte}
 use Rattle.bus_capture.specs.Readings.{place_after, ticks_in, text_limit, sample_of}
-use Rattle.bus_capture.specs.Quiet.{quiet_pairs, ReadsQuiet, TakesTick, step_in, run_of, pair_of, tick_front}
+use Rattle.bus_capture.specs.Quiet.{quiet_pairs, ReadsQuiet, TakesTick, IsStep, step_in, run_of, pair_of, tick_front, is_stop, four_quiet}
 use Rattle.bus_capture.specs.declared.reader.QuietRun.{QuietRun}
 use Rattle.bus_capture.specs.declared.reader.Place.TheVariants.{Between}
 use Rattle.bus_capture.specs.Reader.{ReaderStands}
@@ -59,12 +59,6 @@ quiet-parts front later ticks more first second bytes place begun room =
           ∙ ap (λ xs. xs ++ ticks_in bytes) (quiet-sum more ticks)),
     )
 
--- what one step takes of a piece
-pub record IsStep (piece : List ℕ) (run : QuietRun) : Type 0 where
-  pub within : run.bytes ≤ length piece
-  pub few : run.ticks ≤ run.bytes
-  pub reads : ReadsQuiet (take run.bytes piece) run.ticks
-
 nothing : (piece : List ℕ) → IsStep piece (run_of 0 0)
 nothing piece = record { within = omega arith; few = omega arith; reads = quiet-none }
 
@@ -89,12 +83,47 @@ step-is [] = nothing []
 step-is (a ∷ []) = feed-or-nothing a [] (a == 10) refl
 step-is (a ∷ b ∷ rest) = pair-or-feed a b rest (a == 46) (b == 46) refl refl
 
+both : (a b : Bool) → (a && b) ≡ true → (a ≡ true) × (b ≡ true)
+both true b is = (refl, is)
+both false b is = absurd (cc)
+
+stop-is : (byte : ℕ) → is_stop byte ≡ true → byte ≡ 46
+stop-is byte is = grind (arith, nat_tests, is)
+
+quiet-four : ReadsQuiet (46 ∷ 46 ∷ 46 ∷ 46 ∷ 46 ∷ 46 ∷ 46 ∷ 46 ∷ []) 4
+quiet-four =
+    let two : ReadsQuiet (46 ∷ 46 ∷ 46 ∷ 46 ∷ []) 2 = quiet-parts (46 ∷ 46 ∷ []) (46 ∷ 46 ∷ []) 1 1 quiet-tick quiet-tick in
+    quiet-parts (46 ∷ 46 ∷ 46 ∷ 46 ∷ []) (46 ∷ 46 ∷ 46 ∷ 46 ∷ []) 2 2 two two
+
+-- four quiet ticks are read
+pub four-is : (piece : List ℕ) → four_quiet piece ≡ true → IsStep piece (run_of 8 4)
+four-is (a ∷ b ∷ c ∷ d ∷ e ∷ f ∷ g ∷ h ∷ rest) is =
+    let p7 = both _ _ is in
+    let p6 = both _ _ p7.0 in
+    let p5 = both _ _ p6.0 in
+    let p4 = both _ _ p5.0 in
+    let p3 = both _ _ p4.0 in
+    let p2 = both _ _ p3.0 in
+    let p1 = both _ _ p2.0 in
+    record {
+      within = omega arith;
+      few = omega arith;
+      reads = rw (stop-is a p1.0, stop-is b p1.1, stop-is c p2.1, stop-is d p3.1, stop-is e p4.1, stop-is f p5.1, stop-is g p6.1, stop-is h p7.1) quiet-four;
+    }
+four-is [] is = absurd (cc)
+four-is (a ∷ []) is = absurd (cc)
+four-is (a ∷ b ∷ []) is = absurd (cc)
+four-is (a ∷ b ∷ c ∷ []) is = absurd (cc)
+four-is (a ∷ b ∷ c ∷ d ∷ []) is = absurd (cc)
+four-is (a ∷ b ∷ c ∷ d ∷ e ∷ []) is = absurd (cc)
+four-is (a ∷ b ∷ c ∷ d ∷ e ∷ f ∷ []) is = absurd (cc)
+four-is (a ∷ b ∷ c ∷ d ∷ e ∷ f ∷ g ∷ []) is = absurd (cc)
+
 -- a step after what was taken before, with what it took
 pub taken-more : (piece : List ℕ) (bytes ticks : ℕ) (next : QuietRun) → bytes ≤ length piece → ticks ≤ bytes → ReadsQuiet (take bytes piece) ticks →
-    next ≡ step_in (take (length piece - bytes) (drop bytes piece)) → IsStep piece (run_of (bytes + next.bytes) (ticks + next.ticks))
+    IsStep (take (length piece - bytes) (drop bytes piece)) next → IsStep piece (run_of (bytes + next.bytes) (ticks + next.ticks))
 taken-more piece bytes ticks next within few reads is =
-    let e : next ≡ step_in (drop bytes piece) = is ∙ ap step_in (take_rest piece bytes) in
-    let step : IsStep (drop bytes piece) next = rw e (step-is (drop bytes piece)) in
+    let step : IsStep (drop bytes piece) next = subst (λ p. IsStep p next) (take_rest piece bytes) is in
     let long : length (drop bytes piece) ≡ length piece - bytes = length-drop bytes piece in
     let inside : next.bytes ≤ length (drop bytes piece) = step.within in
     let less : next.ticks ≤ next.bytes = step.few in

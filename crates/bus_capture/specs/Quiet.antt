@@ -1,5 +1,5 @@
 -- Ticks at the front of a piece of text: what a reader may take at once.
-use Rattle.std.specs.Prelude.{◌≡◌, ℕ, zero, suc, ◌+◌, ◌≤◌, ◌==◌, ◌&&◌, if◌then◌else◌, List, [], ◌∷◌, ◌++◌, length, reverse, take, Option, Some, None}
+use Rattle.std.specs.Prelude.{◌≡◌, ℕ, zero, suc, ◌+◌, ◌≤◌, ◌==◌, ◌&&◌, Bool, false, if◌then◌else◌, List, [], ◌∷◌, ◌++◌, length, reverse, take, Option, Some, None}
 use Rattle.bus_base.specs.declared.samples.Pair.{Pair}
 use Rattle.bus_base.specs.declared.samples.Sample.TheVariants.{Quiet}
 use Rattle.bus_base.specs.declared.samples.Sample.{Sample}
@@ -26,7 +26,22 @@ pub record TakesTick (reader : CaptureReader) (piece bytes : List ℕ) (shown : 
   pub ticks_are : ticks_in (reverse (take 2 piece) ++ bytes) ≡ shown ∷ ticks_in bytes
   pub between : place_after (reverse (take 2 piece) ++ bytes) ≡ Between
 
+-- a front of a piece that is quiet ticks and line feeds
+pub record IsStep (piece : List ℕ) (run : QuietRun) : Type 0 where
+  pub within : run.bytes ≤ length piece
+  pub few : run.ticks ≤ run.bytes
+  pub reads : ReadsQuiet (take run.bytes piece) run.ticks
+
 -- ---- steps of the code
+
+abbrev pub is_stop : ℕ → Bool
+is_stop byte = byte == 46
+
+-- the front is four quiet ticks
+abbrev pub four_quiet : List ℕ → Bool
+four_quiet (a ∷ b ∷ c ∷ d ∷ e ∷ f ∷ g ∷ h ∷ rest) =
+    is_stop a && is_stop b && is_stop c && is_stop d && is_stop e && is_stop f && is_stop g && is_stop h
+four_quiet _ = false
 
 abbrev pub pair_of : Option Sample → Option Sample → Option Pair
 pair_of (Some a) (Some b) = Some record { a = a; b = b }

@@ -16,7 +16,7 @@ ghost use Rattle.bus_capture.specs.Readings.{
   ticks_in,
 };
 ghost use Rattle.bus_capture.specs.Reader.{ReaderStands, after_byte};
-ghost use Rattle.bus_capture.specs.Quiet.{quiet_pairs, ReadsQuiet, TakesTick, step_in, tick_front};
+ghost use Rattle.bus_capture.specs.Quiet.{quiet_pairs, ReadsQuiet, TakesTick, IsStep, step_in, four_quiet, tick_front};
 ghost use Rattle.bus_capture.specs.Readings.{text_limit};
 ghost use Rattle.bus_capture.specs.declared.reader.Place.TheVariants.{Between};
 ghost use Rattle.std.specs.Prelude.{IsTrue, MatchOption};
@@ -167,7 +167,7 @@ fn quiet_front(piece: &[u8]) -> QuietRun
     let mut bytes = 0;
     let mut ticks = 0;
     'bytes: while bytes < piece.len() {
-        let next = quiet_step(&piece[bytes..]);
+        let next = quiet_part(&piece[bytes..]);
         if next.bytes == 0 {
             break 'bytes;
         }
@@ -175,6 +175,23 @@ fn quiet_front(piece: &[u8]) -> QuietRun
         ticks += next.ticks;
     }
     QuietRun { bytes, ticks }
+}
+
+// Four quiet ticks at the front of a piece, or less.
+fn quiet_part(piece: &[u8]) -> QuietRun
+    ensures { IsStep piece.now result }
+{
+    if are_four_quiet(piece) {
+        return QuietRun { bytes: 8, ticks: 4 };
+    }
+    quiet_step(piece)
+}
+
+// Whether a piece begins with four quiet ticks.
+fn are_four_quiet(piece: &[u8]) -> bool
+    ensures { result ≡ four_quiet piece.now }
+{
+    matches!(piece, [b'.', b'.', b'.', b'.', b'.', b'.', b'.', b'.', ..])
 }
 
 // One quiet tick or one line feed at the front of a piece, if there is one.

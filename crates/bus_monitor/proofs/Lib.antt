@@ -4,9 +4,14 @@ pub mod MessageLaws
 pub mod LineLaws
 pub mod WordLaws
 pub mod QuietLaws
+pub mod IdleLaws
 pub mod ScribeLaws
 pub mod PieceLaws
 pub mod ListLaws
 pub mod OpeningLaws
 pub mod AwaitedLaws
 pub mod FrontLaws
+pub mod ReadingLaws
+pub mod StepLaws
+pub mod ListerLaws
+pub mod OpenLaws

@@ -25,7 +25,7 @@ closes_all : ℕ → Option Waiting → List Burst → List Closed
 closes_all k w [] = []
 closes_all k w (burst ∷ bursts) = closes k w burst ++ closes_all k (waits k w burst) bursts
 
-pub waits_all : ℕ → Option Waiting → List Burst → Option Waiting
+unfoldable pub waits_all : ℕ → Option Waiting → List Burst → Option Waiting
 waits_all k w [] = w
 waits_all k w (burst ∷ bursts) = waits_all k (waits k w burst) bursts
 

@@ -22,7 +22,7 @@ use Rattle.bus_monitor.proofs.LineLaws.{words-grow}
 -- ---- what is heard
 
 -- on each channel they are quiet ticks
-on-quiet : (c : Channel) (n : ℕ) (past : List Pair) → on_channel c (quiet_pairs n ++ past) ≡ quiet_ticks n ++ on_channel c past
+pub on-quiet : (c : Channel) (n : ℕ) (past : List Pair) → on_channel c (quiet_pairs n ++ past) ≡ quiet_ticks n ++ on_channel c past
 on-quiet c zero past = refl
 on-quiet A (suc n) past = ap (λ xs. Quiet ∷ xs) (on-quiet A n past)
 on-quiet B (suc n) past = ap (λ xs. Quiet ∷ xs) (on-quiet B n past)

@@ -10,6 +10,8 @@ use Rattle.bus_line.specs.declared.cutter.Cut.{Cut}
 use Rattle.bus_line.specs.declared.cutter.Cut.TheVariants as cuts
 use Rattle.bus_formats.specs.declared.log.Heard.{Heard}
 use Rattle.bus_monitor.specs.Progress.{heard_at}
+use Rattle.bus_monitor.specs.Channels.{ChannelListerStands}
+use Rattle.bus_monitor.specs.declared.messages.MessageLister.{MessageLister}
 use Rattle.bus_monitor.specs.declared.word_lister.WordLister.{WordLister}
 
 -- ---- words
@@ -29,3 +31,10 @@ pub record WordListerStands (lister : WordLister) (past : List Pair) : Type 0 wh
   pub b : CutterStands LAG lister.b (on_channel B past)
   pub ticks : lister.ticks ≡ length past
   pub quiet_is : (lister.quiet ≤ quiet_both past) ⊎ (quiet_both past ≡ length past)
+
+-- ---- messages
+
+pub record MessageListerStands (lister : MessageLister) (past : List Pair) : Type 0 where
+  pub a : ChannelListerStands lister.a (on_channel A past)
+  pub b : ChannelListerStands lister.b (on_channel B past)
+  pub ticks : lister.ticks ≡ length past

@@ -1,7 +1,8 @@
 //! Which message a burst opens: the one whose command words, with the controller's data words, its slots are.
-ghost use Rattle.std.specs.Prelude.{◌≡◌, ◌≤◌, Some};
+ghost use Rattle.std.specs.Prelude.{◌≡◌, ◌≤◌, true, false, Some, IfSome};
+ghost use Rattle.bus_formats.specs.Accepted.{HasKindRanges};
 ghost use Rattle.bus_formats.specs.Readings.{data_in as data_in_slots};
-ghost use Rattle.bus_words.specs.Fields.{word_count};
+ghost use Rattle.bus_words.specs.Fields.{is_mode, word_count};
 ghost use Rattle.bus_monitor.specs.Messages as spec;
 
 use bus_formats::{Block, Kind, command_in, datum_in, form_of};
@@ -9,7 +10,8 @@ use bus_words::{Command, Word};
 
 /// The message that a burst of these slots and this rest opens, if it is of a known form.
 pub(crate) fn message_of(slots: &[Option<Word>], rest: u8) -> Option<Kind>
-    ensures { result ≡ spec.message_of slots.now rest }
+    ensures value { result ≡ spec.message_of slots.now rest }
+    ensures ranges { IfSome result HasKindRanges }
 {
     match slots {
         [slot, data @ ..] if rest == 0 => command_message(Command::of(command_in(*slot)?), data),
@@ -18,7 +20,8 @@ pub(crate) fn message_of(slots: &[Option<Word>], rest: u8) -> Option<Kind>
 }
 
 fn command_message(command: Command, slots: &[Option<Word>]) -> Option<Kind>
-    ensures { result ≡ spec.command_message (Some command) slots.now }
+    ensures value { result ≡ spec.command_message (Some command) slots.now }
+    ensures ranges { IfSome result HasKindRanges }
 {
     if command.is_mode() {
         mode_message(command, slots)
@@ -30,7 +33,9 @@ fn command_message(command: Command, slots: &[Option<Word>]) -> Option<Kind>
 }
 
 fn mode_message(command: Command, slots: &[Option<Word>]) -> Option<Kind>
-    ensures { result ≡ spec.mode_message command slots.now }
+    requires { is_mode command ≡ true }
+    ensures value { result ≡ spec.mode_message command slots.now }
+    ensures ranges { IfSome result HasKindRanges }
 {
     match slots {
         [] => mode_kind(command, None),
@@ -40,7 +45,9 @@ fn mode_message(command: Command, slots: &[Option<Word>]) -> Option<Kind>
 }
 
 fn mode_kind(command: Command, word: Option<u16>) -> Option<Kind>
-    ensures { result ≡ spec.mode_kind command word }
+    requires { is_mode command ≡ true }
+    ensures value { result ≡ spec.mode_kind command word }
+    ensures ranges { IfSome result HasKindRanges }
 {
     let kind = Kind::Mode {
         to: command.address(),
@@ -57,7 +64,9 @@ fn mode_kind(command: Command, word: Option<u16>) -> Option<Kind>
 }
 
 fn transmit_message(command: Command, slots: &[Option<Word>]) -> Option<Kind>
-    ensures { result ≡ spec.transmit_message command slots.now }
+    requires { is_mode command ≡ false }
+    ensures value { result ≡ spec.transmit_message command slots.now }
+    ensures ranges { IfSome result HasKindRanges }
 {
     match slots {
         [] if command.address() != 31 => Some(Kind::Transmit {
@@ -70,7 +79,9 @@ fn transmit_message(command: Command, slots: &[Option<Word>]) -> Option<Kind>
 }
 
 fn receive_message(command: Command, slots: &[Option<Word>]) -> Option<Kind>
-    ensures { result ≡ spec.receive_message command slots.now (data_in_slots (word_count command) slots.now) }
+    requires { is_mode command ≡ false }
+    ensures value { result ≡ spec.receive_message command slots.now (data_in_slots (word_count command) slots.now) }
+    ensures ranges { IfSome result HasKindRanges }
 {
     match data_in(command.words(), slots) {
         Some(words) => Some(Kind::Receive {
@@ -83,7 +94,9 @@ fn receive_message(command: Command, slots: &[Option<Word>]) -> Option<Kind>
 }
 
 fn relay_message(command: Command, slots: &[Option<Word>]) -> Option<Kind>
-    ensures { result ≡ spec.relay_message command slots.now }
+    requires { is_mode command ≡ false }
+    ensures value { result ≡ spec.relay_message command slots.now }
+    ensures ranges { IfSome result HasKindRanges }
 {
     match slots {
         [slot] => relay_with(command, Command::of(command_in(*slot)?)),
@@ -93,7 +106,9 @@ fn relay_message(command: Command, slots: &[Option<Word>]) -> Option<Kind>
 
 // A relay's two commands name the same count and different terminals (MIL-STD-1553B 4.3.3.6.3).
 fn relay_with(command: Command, second: Command) -> Option<Kind>
-    ensures { result ≡ spec.relay_with command (Some second) }
+    requires { is_mode command ≡ false }
+    ensures value { result ≡ spec.relay_with command (Some second) }
+    ensures ranges { IfSome result HasKindRanges }
 {
     let relays = second.transmit() && !second.is_mode() && second.field() == command.field();
     if relays && second.address() != 31 && second.address() != command.address() {

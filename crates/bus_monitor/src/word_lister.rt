@@ -3,6 +3,8 @@ ghost use Rattle.std.specs.Prelude.{◌≡◌, ◌<◌, ◌+◌, ◌^◌, ℕ, t
 ghost use Rattle.bus_capture.specs.Quiet.{quiet_pairs};
 ghost use Rattle.bus_base.specs.declared.samples.Channel.TheVariants as channels;
 ghost use Rattle.bus_base.specs.declared.samples.Pair.{Pair};
+ghost use Rattle.bus_line.specs.Channels.{on_channel};
+ghost use Rattle.bus_line.specs.Cutting.{cut_now};
 ghost use Rattle.bus_line.specs.declared.cutter.TheConstants.{LAG};
 ghost use Rattle.bus_monitor.specs.Progress.{heard_now};
 ghost use Rattle.bus_monitor.specs.Listers.{WordListerStands, heard_in, quiet_next};
@@ -49,11 +51,23 @@ impl WordLister {
             result ≡ heard_now LAG channels.A (heard ∷ past) ∷ heard_now LAG channels.B (heard ∷ past) ∷ [] }
         ensures stands { (past : List Pair) → WordListerStands self.old past → WordListerStands self.new (heard ∷ past) }
     {
-        let a = word_in(self.a.hear(heard.a), Channel::A, self.ticks);
-        let b = word_in(self.b.hear(heard.b), Channel::B, self.ticks);
+        let tick = self.ticks;
+        let (a, b) = self.cut(heard);
+        [word_in(a, Channel::A, tick), word_in(b, Channel::B, tick)]
+    }
+
+    /// Hears what both channels show in one tick. What became known of A and of B.
+    pub(crate) fn cut(&mut self, heard: Pair) -> (Cut, Cut)
+        requires { (past : List Pair) × WordListerStands self.old past × (length past < 2 ^ 60) }
+        ensures cuts { (past : List Pair) → WordListerStands self.old past →
+            (result.0 ≡ cut_now LAG (on_channel channels.A (heard ∷ past))) × (result.1 ≡ cut_now LAG (on_channel channels.B (heard ∷ past))) }
+        ensures stands { (past : List Pair) → WordListerStands self.old past → WordListerStands self.new (heard ∷ past) }
+    {
+        let a = self.a.hear(heard.a);
+        let b = self.b.hear(heard.b);
         self.ticks += 1;
         self.quiet = quiet_after(self.quiet, heard);
-        [a, b]
+        (a, b)
     }
 
     /// Whether no burst runs.
@@ -83,8 +97,8 @@ fn quiet_after(quiet: u8, heard: Pair) -> u8
     }
 }
 
-// The valid word that ends in this tick, which is the last of its forty.
-fn word_in(cut: Cut, channel: Channel, tick: u64) -> Option<Heard>
+/// The valid word that ends in this tick, which is the last of its forty.
+pub(crate) fn word_in(cut: Cut, channel: Channel, tick: u64) -> Option<Heard>
     ensures { result ≡ heard_in cut channel tick }
 {
     match cut {

@@ -5,13 +5,15 @@ ghost use Rattle.bus_text.specs.Texts.{word_line};
 ghost use Rattle.bus_monitor.specs.Listings.{word_listing};
 ghost use Rattle.bus_monitor.specs.Progress.{word_lines, end_text};
 ghost use Rattle.bus_monitor.specs.Scribes.{IsListed, ListingHasCause};
-ghost use Rattle.bus_monitor.specs.Listers.{WordListerStands};
+ghost use Rattle.bus_monitor.specs.Listers.{WordListerStands, heard_in};
 
 use crate::list::list;
 use crate::scribe::Lister;
+use crate::word_lister::word_in;
 use crate::{Listing, WordLister};
-use bus_base::Pair;
+use bus_base::{Channel, Pair};
 use bus_formats::Heard;
+use bus_line::Cut;
 use bus_outside::{Sink, Source};
 use bus_text::Line;
 
@@ -42,13 +44,25 @@ impl Lister for WordLister {
     }
 
     fn list(&mut self, shown: Pair, text: &mut Line) {
-        let [a, b] = self.hear(shown);
-        add_word(a, text);
-        add_word(b, text);
+        let tick = self.ticks();
+        let (a, b) = self.cut(shown);
+        add_cut(a, Channel::A, tick, text);
+        add_cut(b, Channel::B, tick, text);
     }
 
     fn finish(&self, text: &mut Line) {
         add_end(self.ticks(), text);
+    }
+}
+
+// Adds the line of the valid word that ends in this tick, if what became known of the channel has one.
+fn add_cut(cut: Cut, channel: Channel, tick: u64, text: &mut Line)
+    requires { length text.old ≤ 500 }
+    ensures text { text.new ≡ text.old ++ flat_map word_line (option_to_list (heard_in cut channel tick)) }
+    ensures grows { length text.new ≤ length text.old + 40 }
+{
+    if let Cut::Slot { .. } = cut {
+        add_word(word_in(cut, channel, tick), text);
     }
 }
 

@@ -5,8 +5,8 @@ use Rattle.std.specs.Io.KnownBytes.{Consumes, IsAtEnd, Appends}
 use Rattle.bus_base.specs.declared.samples.Pair.{Pair}
 use Rattle.bus_capture.specs.declared.refusal.CaptureRefusal.{CaptureRefusal}
 use Rattle.bus_line.specs.declared.cutter.TheConstants.{LAG}
-use Rattle.bus_monitor.specs.Listings.{word_listing}
-use Rattle.bus_monitor.specs.Progress.{word_lines}
+use Rattle.bus_monitor.specs.Listings.{word_listing, message_listing}
+use Rattle.bus_monitor.specs.Progress.{word_lines, message_lines}
 use Rattle.bus_monitor.specs.Scribes.{IsListed, ListingHasCause}
 use Rattle.bus_monitor.specs.declared.listing.Listing.{Listing}
 use Rattle.bus_monitor.specs.declared.listing.Listing.TheVariants.{Done, Refused, ReadFault, WriteFault}
@@ -112,3 +112,4 @@ module _ (left0 left1 held0 held1 : Option (List ℕ)) (source0 source1 sink0 si
   Ends None = EndsUnmeant
   Ends (Some commands.Run) = EndsRun
   Ends (Some commands.Decode) = EndsListing (word_lines LAG) (word_listing LAG)
+  Ends (Some commands.Messages) = EndsListing (message_lines LAG) (message_listing LAG)

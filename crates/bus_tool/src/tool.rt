@@ -6,7 +6,7 @@ ghost use Rattle.bus_tool.specs.Ends.{Ends, EndsRun};
 ghost use Rattle.bus_tool.specs.Meaning.{meaning};
 
 use crate::input::{Stop, read_input};
-use crate::listing::decode;
+use crate::listing::{decode, messages};
 use crate::run::answer;
 use crate::words::{Command, command_of};
 use bus_outside::{Sink, Source};
@@ -31,6 +31,7 @@ pub fn bus_tool<S: Source, K: Sink>(
         None => refuse_words(sink),
         Some(Command::Run) => run(alloc, source, sink),
         Some(Command::Decode) => decode(source, sink),
+        Some(Command::Messages) => messages(source, sink),
     }
 }
 

@@ -9,6 +9,8 @@ pub enum Command {
     Run,
     /// Read a capture, and write the listing of its valid words.
     Decode,
+    /// Read a capture, and write the listing of its messages.
+    Messages,
 }
 
 /// The command that the words mean, the program's name left out; none where they have no meaning. It takes no memory.
@@ -29,6 +31,9 @@ fn command_named(word: &str) -> Option<Command>
     }
     if word == "decode" {
         return Some(Command::Decode);
+    }
+    if word == "messages" {
+        return Some(Command::Messages);
     }
     None
 }

@@ -1,5 +1,5 @@
 use Rattle.std.proofs.Common.{length, ◌-◌}
-use Rattle.bus_capture.proofs.QuietLaws.{IsStep}
+use Rattle.bus_capture.specs.Quiet.{IsStep}
 use Rattle.bus_capture.proofs.reader.quiet_front.Given as goal
 
 abbrev pub invariant-bytes : goal.invariant-bytes

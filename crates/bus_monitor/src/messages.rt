@@ -1,0 +1,79 @@
+//! The listing of the messages of a capture.
+ghost use Rattle.std.specs.Prelude.{[], ◌&&◌};
+ghost use Rattle.bus_monitor.specs.Channels.{is_idle_on};
+ghost use Rattle.bus_line.specs.declared.cutter.TheConstants.{LAG};
+ghost use Rattle.bus_monitor.specs.Listings.{message_listing};
+ghost use Rattle.bus_monitor.specs.Progress.{message_lines};
+ghost use Rattle.bus_monitor.specs.Scribes.{IsListed, ListingHasCause};
+ghost use Rattle.bus_monitor.specs.Listers.{MessageListerStands};
+
+use crate::Listing;
+use crate::channel_lister::ChannelLister;
+use crate::list::list;
+use crate::message_text::{add_closed, add_open};
+use crate::scribe::Lister;
+use crate::words::add_end;
+use bus_base::{Channel, Pair};
+use bus_outside::{Sink, Source};
+use bus_text::Line;
+
+/// Reads a capture to its end, in pieces of at most 4,096 bytes, and writes the listing of its messages while it reads: a line for each
+/// message where it closes, with its outcome and statuses, A before B in one tick; then a line for each that is open at the end, and the
+/// number of ticks (bus monitor, MIL-STD-1553B 4.4.4). It takes no memory.
+pub fn list_messages<S: Source, K: Sink>(source: &mut S, sink: &mut K) -> Listing
+    ensures listed { IsListed (message_lines LAG) (message_listing LAG) (S.left source.old) (S.left source.new) (K.held sink.old) (K.held sink.new) result }
+    ensures cause { ListingHasCause (S.faults source.old) (S.faults source.new) (K.faults sink.old) (K.faults sink.new) result }
+{
+    list(MessageLister::new(), source, sink)
+}
+
+/// Lists the messages of both channels. It takes no memory.
+#[derive(Drop)]
+pub(crate) struct MessageLister {
+    a: ChannelLister,
+    b: ChannelLister,
+    ticks: u64,
+}
+
+impl MessageLister {
+    /// A lister that heard nothing.
+    pub(crate) fn new() -> MessageLister
+        ensures { MessageListerStands result [] }
+    {
+        MessageLister {
+            a: ChannelLister::new(),
+            b: ChannelLister::new(),
+            ticks: 0,
+        }
+    }
+}
+
+impl Lister for MessageLister {
+    ghost stands = { MessageListerStands };
+
+    ghost lines = { message_lines LAG };
+
+    ghost whole = { message_listing LAG };
+
+    ghost idle = { λ lister. is_idle_on lister.a && is_idle_on lister.b };
+
+    fn is_idle(&self) -> bool {
+        self.a.is_idle() && self.b.is_idle()
+    }
+
+    fn skip(&mut self, ticks: u64) {
+        self.ticks += ticks;
+    }
+
+    fn list(&mut self, shown: Pair, text: &mut Line) {
+        add_closed(Channel::A, self.a.hear(self.ticks, shown.a), text);
+        add_closed(Channel::B, self.b.hear(self.ticks, shown.b), text);
+        self.ticks += 1;
+    }
+
+    fn finish(&self, text: &mut Line) {
+        add_open(Channel::A, self.a.open(), text);
+        add_open(Channel::B, self.b.open(), text);
+        add_end(self.ticks, text);
+    }
+}
