@@ -96,7 +96,7 @@ next-silent k terminal loads next past now s end e h = subst (λ (o : Option ℕ
 
 -- ---- an answer that isn't given up
 
-kept-accepts : (k : ℕ) (terminal : TerminalData) (loads : List TimedLoad) (past : List Sample) (x : Sample) (s : Standing) (words : List Word) (acceptance : Bool) →
+pub kept-accepts : (k : ℕ) (terminal : TerminalData) (loads : List TimedLoad) (past : List Sample) (x : Sample) (s : Standing) (words : List Word) (acceptance : Bool) →
     given_up k terminal past s ≡ false →
     accepted_by k terminal loads past x s (owes words acceptance) ≡ (if acceptance then heard_status (due_after terminal s.end) (ended_now k (x ∷ past)) else None)
 kept-accepts k terminal loads past x s words true kept = rw kept refl

@@ -19,6 +19,8 @@ use Rattle.bus_terminal.proofs.Heard.{length-heard}
 use Rattle.bus_terminal.proofs.Loads.{loads-same, made-more, absorbed-like, order-keeps}
 use Rattle.bus_terminal.proofs.Standing.{Recent, left-stands}
 use Rattle.bus_terminal.proofs.Ends.{Ends, now-ends, ended-place}
+use Rattle.bus_terminal.proofs.Newest.{marked-tick, mark-before}
+use Rattle.bus_terminal.proofs.Newer.{newest-order}
 
 order-leaves : (s : Standing) (order : Handled) (o : Obeyed) → ((after_order s order o).memory ≡ o.memory) × ((after_order s order o).duty ≡ o.duty)
 order-leaves s (obeys c end order rest) o = (refl, refl)
@@ -72,6 +74,8 @@ common-after k terminal loads common after ears past now s order st is left hear
       made = made-more terminal.address (length past) loads st.made;
       ears = hear;
       ended = order-ended k terminal (now ∷ past) s o order (now-ends k terminal now past s order is) (omega (arith, st.ended));
+      marked = marked-tick k terminal now past s (after_order s order o) (omega (arith, st.fits.lag)) st.marked;
+      newest = newest-order k terminal now past s common.memory now.may order is st.marked st.newest (λ c. mark-before k terminal.address common.ears past s c st.ears);
     }
 
 -- the state that is left

@@ -15,13 +15,10 @@ use Rattle.bus_model.specs.Standing.{Standing, superseded, ignored_from, mark_on
 use Rattle.bus_model.specs.Terminal.{marked_by, order_now, given_up, is_over, begins}
 use Rattle.bus_terminal.specs.Holding.{EarsStand, Listens, begins_on}
 use Rattle.bus_terminal.specs.Stands.{CommonStands, AnsweringStands, NextStands, StateStands, IsSending, TakenIs, AcceptedIs, rests}
-use Rattle.bus_terminal.specs.Steps.{answering_on, begins_told, accepted_told, accepted_event}
+use Rattle.bus_terminal.specs.Steps.{answering_on, begins_told, acceptance_told}
 use Rattle.bus_terminal.specs.declared.common.Common.{Common}
 use Rattle.bus_terminal.specs.declared.state.Sends.{Sends}
 use Rattle.bus_terminal.specs.declared.answering.Answering.{Answering}
-use Rattle.bus_terminal.specs.declared.state.TerminalEvent.{TerminalEvent}
-use Rattle.bus_terminal.specs.declared.state.TerminalNext.{TerminalNext}
-use Rattle.bus_terminal.specs.declared.state.TerminalEvent.TheVariants as events
 use Rattle.bus_terminal.proofs.Heard.{length-heard}
 use Rattle.bus_terminal.proofs.Within.{within-same}
 use Rattle.bus_terminal.proofs.Standing.{kept-when, rests-superseded}
@@ -29,27 +26,15 @@ use Rattle.bus_terminal.proofs.OwingTicks.{kept-parts}
 use Rattle.bus_terminal.proofs.Listened.{none-next, common-kept}
 use Rattle.bus_terminal.proofs.Ticks.{sent-of}
 
-event-still : (e : TerminalEvent) (accepted : Bool) (tick : ℕ) (c : Channel) (o : Option Taken) → TakenIs e tick c o → TakenIs (accepted_event e accepted) tick c o
-event-still events.Nothing true tick c o h = h
-event-still events.Nothing false tick c o h = h
-event-still (events.Took delivery) accepted tick c o h = h
-event-still events.Accepted accepted tick c o h = h
+-- a tick without an order tells whether control was accepted, and of no block
+acceptance-takes : (accepted : Bool) (tick : ℕ) (c : Channel) (o : Option Taken) → o ≡ None → TakenIs (acceptance_told accepted) tick c o
+acceptance-takes true tick c o h = h
+acceptance-takes false tick c o h = h
 
-event-accepted : (e : TerminalEvent) (accepted : Bool) (end : Option ℕ) → accepted ≡ is_some end → AcceptedIs e None → AcceptedIs (accepted_event e accepted) end
-event-accepted events.Nothing true end is h = sym is
-event-accepted events.Nothing false None is h = refl
-event-accepted events.Nothing false (Some end) is h = cc
-event-accepted (events.Took delivery) accepted end is h = tt
-event-accepted events.Accepted accepted end is h = cc
-
--- acceptance changes nothing else
-pub accepted-next : (k : ℕ) (terminal : TerminalData) (loads : List TimedLoad) (next : TerminalNext) (past : List Moment) (now : Moment) (s : Standing) (accepted : Bool) (end : Option ℕ) →
-    accepted ≡ is_some end → NextStands k terminal loads next past now s None → NextStands k terminal loads (accepted_told next accepted) past now s end
-accepted-next k terminal loads next past now s accepted end is h = record {
-  state = h.state;
-  taken = event-still next.event accepted (length past) _ _ h.taken;
-  accepted = event-accepted next.event accepted end is h.accepted;
-}
+acceptance-is : (accepted : Bool) (end : Option ℕ) → accepted ≡ is_some end → AcceptedIs (acceptance_told accepted) end
+acceptance-is true end is = sym is
+acceptance-is false None is = refl
+acceptance-is false (Some end) is = cc
 
 -- the answer begins in the tick in which nothing of it was sent
 begins-is : (k : ℕ) (terminal : TerminalData) (loads : List TimedLoad) (state : Answering) (past : List Moment) (s : Standing) → AnsweringStands k terminal loads state past s →
@@ -155,8 +140,8 @@ pub answering-none : (k : ℕ) (terminal : TerminalData) (loads : List TimedLoad
     EarsStand k terminal.address common.ears (now ∷ past) (marked_by k terminal now past s s) → sent ≡ suc state.sent →
     newer ≡ superseded k (marked_by k terminal now past s s) →
     ignored ≡ ignored_from k (heard_on state.sends.channel (now ∷ past)) (mark_on (marked_by k terminal now past s s).sent state.sends.channel) →
-    NextStands k terminal loads (accepted_told (record { state = answering_on common state.sends sent newer ignored; event = events.Nothing }) accepted) past now s end
+    NextStands k terminal loads (record { state = answering_on common state.sends sent newer ignored; event = acceptance_told accepted }) past now s end
 answering-none k terminal loads state common past now s sent newer ignored accepted end is st none plan memory hear more newer_is ignored_is =
-    accepted-next k terminal loads (record { state = answering_on common state.sends sent newer ignored; event = events.Nothing }) past now s accepted end is
-    (none-next k terminal loads (answering_on common state.sends sent newer ignored) past now s none
-    (answering-state k terminal loads state common past now s sent newer ignored st plan memory hear more newer_is ignored_is))
+    let quiet = none-next k terminal loads (answering_on common state.sends sent newer ignored) past now s none
+    (answering-state k terminal loads state common past now s sent newer ignored st plan memory hear more newer_is ignored_is) in
+    record { state = quiet.state; taken = acceptance-takes accepted (length past) _ _ quiet.taken; accepted = acceptance-is accepted end is }

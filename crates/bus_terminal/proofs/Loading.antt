@@ -114,6 +114,8 @@ common-timed k terminal loads load common past s st e h = record {
   made = made-append terminal.address (length past) loads load st.made h;
   ears = st.ears;
   ended = st.ended;
+  marked = st.marked;
+  newest = st.newest;
 }
 
 pub common-at-once : (k : ℕ) (terminal : TerminalData) (loads : List TimedLoad) (common : Common) (memory : Memory) (sub : ℕ) (words : List ℕ) →
@@ -126,6 +128,8 @@ common-at-once k terminal loads common memory sub words st = record {
   made = st.made;
   ears = record { on_a = st.ears.on_a; on_b = st.ears.on_b };
   ended = st.ended;
+  marked = record { on = st.marked.on };
+  newest = λ left. (let no : false ≡ true = left in cc);
 }
 
 -- ---- the states

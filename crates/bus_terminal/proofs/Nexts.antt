@@ -42,7 +42,7 @@ event-taken tick c (Some taken) o e = (refl, refl, sym e)
 -- an order alone tells nothing of acceptance
 orders-silent : (tick : ℕ) (c : Channel) (t : Option Taken) → AcceptedIs (event_told tick c t) None
 orders-silent tick c None = refl
-orders-silent tick c (Some taken) = tt
+orders-silent tick c (Some taken) = refl
 
 order-channel : (s : Standing) (order : Handled) (o : Obeyed) → (after_order s order o).channel ≡ channel_of s (Some order)
 order-channel s (obeys c end order rest) o = refl

@@ -27,6 +27,7 @@ use Rattle.bus_terminal.proofs.Loads.{loads-same, made-more}
 use Rattle.bus_terminal.proofs.Within.{within-stays, or-true}
 use Rattle.bus_terminal.proofs.Standing.{by-test}
 use Rattle.bus_terminal.proofs.Ends.{Ends, ended-place}
+use Rattle.bus_terminal.proofs.Newest.{marked-tick, newest-tick, mark-before}
 
 -- ---- what the code found
 
@@ -77,13 +78,12 @@ common-same k terminal loads common ears past now s st hear = record {
   made = made-more terminal.address (length past) loads st.made;
   ears = hear;
   ended = omega (arith, st.ended);
+  marked = marked-tick k terminal now past s s (omega (arith, st.fits.lag)) st.marked;
+  newest = λ left. let before = st.newest left in
+      newest-tick k terminal now past s s (omega (arith, before.handled)) (mark-before k terminal.address common.ears past s (other_of s.channel) st.ears) before.newest;
 }
 
 -- ---- marks
-
-pub mark-before : (k own : ℕ) (ears : Ears) (past : List Moment) (s : Standing) (c : Channel) → EarsStand k own ears past s → IfSome (mark_on s.addressed c) (λ m. m < length past)
-mark-before k own ears past s A st = subst (λ (n : ℕ). IfSome s.addressed.a (λ m. m < n)) (length-heard A past) st.on_a.before
-mark-before k own ears past s B st = subst (λ (n : ℕ). IfSome s.addressed.b (λ m. m < n)) (length-heard B past) st.on_b.before
 
 from-below : (t n : ℕ) (o : Option ℕ) → IfSome o (λ m. m < n) → is_from t o ≡ true → is_from t (Some n) ≡ true
 from-below t n None h e = cc

@@ -1,11 +1,12 @@
 -- A terminal that wakes stands for its memory and quiet ticks.
-use Rattle.std.proofs.Common.{◌≡◌, ℕ, zero, suc, ◌<◌, Bool, true, ◌==◌, nat_lt, List, [], ◌∷◌, length, refl, sym, ap, ◌∙◌, subst, arith, inl, inr, if◌then◌else◌}
+use Rattle.std.proofs.Common.{◌≡◌, ℕ, zero, suc, ◌<◌, Bool, true, false, ◌==◌, nat_lt, List, [], ◌∷◌, length, refl, sym, ap, ◌∙◌, subst, arith, inl, inr, if◌then◌else◌}
 use Rattle.std.proofs.lemmas.Bool.{lt-ltb, eqb-true, cases_Bool}
 use Rattle.bus_formats.specs.Plans.{TerminalData}
 use Rattle.bus_model.specs.Memory.{Memory, TimedLoad, with_loads, load_due, load_block}
 use Rattle.bus_model.specs.Hearing.{Moment}
 use Rattle.bus_model.specs.Standing.{Standing, at_rest}
 use Rattle.bus_terminal.specs.Quiet.{quiet_moments}
+use Rattle.bus_terminal.proofs.Newest.{marked-quiet}
 use Rattle.bus_terminal.specs.Stands.{AreMade, CommonStands, StateStands, RestsFrom}
 use Rattle.bus_terminal.specs.declared.common.Common.{Common}
 use Rattle.bus_terminal.specs.declared.state.TerminalState.{TerminalState}
@@ -49,6 +50,8 @@ woken-stands k terminal loads (states.Listening state) common past s kept n st r
         made = subst (λ (m : ℕ). AreMade terminal.address m loads) (sym (quiet-length n)) made;
         ears = rested.2 terminal.address n kept;
         ended = omega arith;
+        marked = marked-quiet k terminal.address n kept;
+        newest = λ left. (let no : false ≡ true = left in cc);
       };
       rests_now = refl;
     }

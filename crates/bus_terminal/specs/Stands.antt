@@ -13,6 +13,7 @@ use Rattle.bus_model.specs.Terminal.{given_up, is_over, after_tick, order_now, t
 use Rattle.bus_terminal.specs.Holding.{EarsStand}
 use Rattle.bus_terminal.specs.Quiet.{quiet_moments}
 use Rattle.bus_terminal.specs.Handling.{IsWaiting}
+use Rattle.bus_terminal.specs.Newest.{is_left, AreMarked, IsNewest}
 use Rattle.bus_terminal.specs.declared.common.Common.{Common}
 use Rattle.bus_terminal.specs.declared.state.Sends.{Sends}
 use Rattle.bus_terminal.specs.declared.listening.Listening.{Listening}
@@ -46,6 +47,8 @@ pub record CommonStands (k : ℕ) (terminal : TerminalData) (loads : List TimedL
   pub made : AreMade terminal.address (length past) loads
   pub ears : EarsStand k terminal.address common.ears past s
   pub ended : s.end ≤ length past
+  pub marked : AreMarked k terminal.address past s
+  pub newest : is_left s.duty ≡ true → IsNewest k (length past) s
 
 -- what was left by the last order counts no more
 abbrev pub rests : ℕ → TerminalData → List Moment → Standing → Duty → Bool
@@ -107,10 +110,10 @@ channel_of s None = s.channel
 channel_of s (Some (obeys c end order rest)) = c
 channel_of s (Some _) = s.channel
 
--- what the newest tick told of acceptance, where an answer that accepts has this end, or none: control was accepted, unless a block was taken
+-- what the newest tick told of acceptance, where an answer that accepts has this end, or none: exactly where control is accepted
 abbrev pub AcceptedIs : TerminalEvent → Option ℕ → Type 0
 AcceptedIs events.Nothing accepted = accepted ≡ None
-AcceptedIs (events.Took delivery) accepted = ⊤
+AcceptedIs (events.Took delivery) accepted = accepted ≡ None
 AcceptedIs events.Accepted accepted = is_some accepted ≡ true
 
 -- the state after a tick, and what is told of it, where control is accepted with this end
