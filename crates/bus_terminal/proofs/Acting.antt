@@ -3,6 +3,7 @@ use Rattle.std.proofs.Common.{◌≡◌, ℕ, suc, ◌+◌, ◌≤◌, Bool, Lis
 use Rattle.bus_base.specs.declared.samples.Channel.{Channel}
 use Rattle.bus_line.specs.Past.{quiet}
 use Rattle.bus_formats.specs.Plans.{TerminalData}
+use Rattle.bus_formats.specs.Times.{dead_ticks}
 use Rattle.bus_model.specs.Memory.{Memory, TimedLoad, with_loads}
 use Rattle.bus_model.specs.Orders.{Obeyed, free}
 use Rattle.bus_model.specs.Hearing.{Moment, heard_on}
@@ -20,7 +21,8 @@ use Rattle.bus_terminal.proofs.Loads.{loads-same, made-more, absorbed-like, orde
 use Rattle.bus_terminal.proofs.Standing.{Recent, left-stands}
 use Rattle.bus_terminal.proofs.Ends.{Ends, now-ends, ended-place}
 use Rattle.bus_terminal.proofs.Newest.{marked-tick, mark-before}
-use Rattle.bus_terminal.proofs.Newer.{newest-order}
+use Rattle.bus_terminal.proofs.Newer.{IsNewer, now-newer, newest-order}
+use Rattle.bus_terminal.proofs.Heeding.{heeded-order}
 
 order-leaves : (s : Standing) (order : Handled) (o : Obeyed) → ((after_order s order o).memory ≡ o.memory) × ((after_order s order o).duty ≡ o.duty)
 order-leaves s (obeys c end order rest) o = (refl, refl)
@@ -31,17 +33,18 @@ place-of : (k : ℕ) (heard : List Moment) (c : Channel) (end n : ℕ) → lengt
 place-of k heard c end n here e = sym (length-heard c heard) ∙ e
 
 -- where the order's burst ended, the end has just become known
-order-recent : (k : ℕ) (terminal : TerminalData) (heard : List Moment) (s : Standing) (memory : Memory) (may : Bool) (order : Handled) → Ends k heard s order →
-    ((done_by k terminal s memory may order).duty ≡ free)
-    ⊎ ((length heard ≡ (after_order s order (done_by k terminal s memory may order)).end + suc k)
-    × (quiet (heard_on (after_order s order (done_by k terminal s memory may order)).channel heard) ≡ suc k))
-order-recent k terminal heard s memory may (obeys c end order rest) (burst, e, at) =
-    let place = ended-place k (heard_on c heard) burst e in
-    inr (omega (arith, place.0, length-heard c heard, at), place.1)
-order-recent k terminal heard s memory may (settles end slots rest) (burst, e, at) =
-    let place = ended-place k (heard_on s.channel heard) burst e in
-    inr (omega (arith, place.0, length-heard s.channel heard, at), place.1)
-order-recent k terminal heard s memory may runs_out ends = inl refl
+order-recent : (k : ℕ) (terminal : TerminalData) (now : Moment) (past : List Moment) (s : Standing) (memory : Memory) (may : Bool) (order : Handled) → suc k ≤ dead_ticks terminal.delay →
+    Ends k (now ∷ past) s order → IsNewer k past s order →
+    Recent k (now ∷ past) (marked_by k terminal now past s (after_order s order (done_by k terminal s memory may order)))
+order-recent k terminal now past s memory may (obeys c end order rest) prompt (burst, e, at) newer =
+    let place = ended-place k (heard_on c (now ∷ past)) burst e in
+    let after : Standing = after_order s (obeys c end order rest) (done_by k terminal s memory may (obeys c end order rest)) in
+    inr (omega (arith, place.0, length-heard c (now ∷ past), at), place.1, heeded-order k terminal now past s after c burst prompt e newer.1)
+order-recent k terminal now past s memory may (settles end slots rest) prompt (burst, e, at) newer =
+    let place = ended-place k (heard_on s.channel (now ∷ past)) burst e in
+    let after : Standing = after_order s (settles end slots rest) (done_by k terminal s memory may (settles end slots rest)) in
+    inr (omega (arith, place.0, length-heard s.channel (now ∷ past), at), place.1, heeded-order k terminal now past s after s.channel burst prompt e newer.2)
+order-recent k terminal now past s memory may runs_out prompt ends newer = inl refl
 
 order-ended : (k : ℕ) (terminal : TerminalData) (heard : List Moment) (s : Standing) (o : Obeyed) (order : Handled) → Ends k heard s order → s.end ≤ length heard →
     (after_order s order o).end ≤ length heard
@@ -93,10 +96,7 @@ acted k terminal loads common after ears past now s order performed b n st is he
     let leaves = order-leaves s order o in
     let left : Standing = marked_by k terminal now past s (after_order s order o) in
     let recent : Recent k (now ∷ past) left =
-    elim (order-recent k terminal (now ∷ past) s common.memory now.may order (now-ends k terminal now past s order is)) [
-      | inl none ↦ inl (leaves.1 ∙ none)
-      | inr place ↦ inr place
-    ] in
+    order-recent k terminal now past s common.memory now.may order st.fits.prompt (now-ends k terminal now past s order is) (now-newer k terminal now past s order st.marked is) in
     left-stands k terminal loads (record { plan = common.plan; memory = after; ears = ears }) n (now ∷ past) left performed.channel performed.end performed.part performed.done.duty b
     (common-after k terminal loads common after ears past now s order st is does.done.memory hear)
     here (sym does.channel) (sym does.end) (λ owed. sym (does.part (ap is_owed (sym leaves.1) ∙ owed))) is_b recent (does.done.duty ∙ sym leaves.1)

@@ -28,7 +28,7 @@ abbrev pub EndsIf : ℕ → List Moment → Standing → Option Handled → Type
 EndsIf k heard s None = ⊤
 EndsIf k heard s (Some order) = Ends k heard s order
 
-same-true : (a b : Channel) → same_channel a b ≡ true → a ≡ b
+pub same-true : (a b : Channel) → same_channel a b ≡ true → a ≡ b
 same-true A A h = refl
 same-true B B h = refl
 same-true A B h = cc

@@ -8,6 +8,8 @@ pub mod Loads
 pub mod Standing
 pub mod Ends
 pub mod Newer
+pub mod Heeding
+pub mod Awaited
 pub mod Acting
 pub mod Nexts
 pub mod Ticks

@@ -152,6 +152,8 @@ state-loaded k terminal loads more (states.Promised state) past s m sub words st
   fresh = st.fresh;
   heard = st.heard;
   within = st.within;
+  awaited = st.awaited;
+  heeded = st.heeded;
 }
 state-loaded k terminal loads more (states.Owing state) past s m sub words st same = record {
   common = same;

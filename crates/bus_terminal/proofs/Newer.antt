@@ -1,5 +1,5 @@
 -- An order comes from the channel with the newer command, or from the promise that stands.
-use Rattle.std.proofs.Common.{◌≡◌, ℕ, suc, ◌+◌, ◌<◌, Bool, true, false, not, ◌&&◌, ◌==◌, nat_le, List, ◌∷◌, length, Option, Some, None, refl, ap, ◌∙◌, subst, arith, if◌then◌else◌}
+use Rattle.std.proofs.Common.{◌≡◌, ℕ, suc, ◌+◌, ◌<◌, Bool, true, false, not, ◌&&◌, ◌==◌, nat_le, List, ◌∷◌, length, Option, Some, None, refl, sym, ap, ◌∙◌, subst, arith, if◌then◌else◌}
 use Rattle.std.specs.Prelude.{IfSome, ⊤}
 use Rattle.std.specs.Option.{option_or}
 use Rattle.std.proofs.lemmas.Bool.Decides.{nat_tests}
@@ -19,18 +19,20 @@ use Rattle.bus_model.specs.Terminal.{order_by, order_of, order_on, order_now, ma
 use Rattle.bus_terminal.specs.Newest.{is_left, AreMarked, IsNewest}
 use Rattle.bus_terminal.proofs.Heard.{length-heard}
 use Rattle.bus_terminal.proofs.Standing.{by-test}
-use Rattle.bus_terminal.proofs.Ends.{Ends, now-ends, ended-place}
+use Rattle.bus_terminal.proofs.Ends.{Ends, now-ends, ended-place, same-true}
 use Rattle.bus_terminal.proofs.Newest.{newest-tick}
 
 -- what is known of an order in the newest tick, where s stood before it
-abbrev pub IsNewer : ℕ → Standing → Handled → Type 0
-IsNewer k s (obeys c end order rest) = is_newer c (mark_on s.addressed c) (mark_on s.addressed (other_of c)) ≡ true
-IsNewer k s (settles end slots rest) = (is_left s.duty ≡ true) × (superseded k s ≡ false)
-IsNewer k s runs_out = ⊤
+abbrev pub IsNewer : ℕ → List Moment → Standing → Handled → Type 0
+IsNewer k past s (obeys c end order rest) =
+    (is_newer c (mark_on s.addressed c) (mark_on s.addressed (other_of c)) ≡ true) × (ignored_from k (heard_on c past) (mark_on s.sent c) ≡ false)
+IsNewer k past s (settles end slots rest) =
+    (is_left s.duty ≡ true) × (superseded k s ≡ false) × (ignored_from k (heard_on s.channel past) (mark_on s.sent s.channel) ≡ false)
+IsNewer k past s runs_out = ⊤
 
-abbrev pub IsNewerIf : ℕ → Standing → Option Handled → Type 0
-IsNewerIf k s None = ⊤
-IsNewerIf k s (Some order) = IsNewer k s order
+abbrev pub IsNewerIf : ℕ → List Moment → Standing → Option Handled → Type 0
+IsNewerIf k past s None = ⊤
+IsNewerIf k past s (Some order) = IsNewer k past s order
 
 -- of two marks one is newer
 one-newer : (c : Channel) (this other : Option ℕ) → (this ≡ None → ⊥) → is_newer (other_of c) other this ≡ false → is_newer c this other ≡ true
@@ -45,64 +47,66 @@ promise-left free h = h
 promise-left (owes words acceptance) h = refl
 promise-left (promises command transmitter) h = refl
 
-promised-parts : (p q r t : Bool) → (p && q && not r && t) ≡ true → (p ≡ true) × (r ≡ false)
-promised-parts true true false t h = (refl, refl)
+promised-parts : (p q r t : Bool) → (p && q && not r && t) ≡ true → (p ≡ true) × (r ≡ false) × (q ≡ true)
+promised-parts true true false t h = (refl, refl, refl)
 promised-parts true true true t h = cc
 promised-parts true false r t h = cc
 promised-parts false q r t h = cc
 
-newer-last : (k : ℕ) (terminal : TerminalData) (s : Standing) (c : Channel) (burst : Burst) (last : Option Order) → (mark_on s.addressed c ≡ None → last ≡ None) →
-    IsNewerIf k s (order_by k terminal s c burst last)
-newer-last k terminal s c burst (Some last) marked =
-    by-test (IsNewerIf k s) (outrun s c) None (Some (obeys c (end_of burst) last (rest_of burst))) (λ _. tt)
-    (λ newer. one-newer c (mark_on s.addressed c) (mark_on s.addressed (other_of c)) (λ none. (let no : Some last ≡ None = marked none in cc)) newer)
-newer-last k terminal s c burst None marked =
-    by-test (IsNewerIf k s) (promised_on k s c && nat_le burst.first (s.end + relay_wait)) (Some (settles (end_of burst) burst.slots (rest_of burst))) None
+newer-last : (k : ℕ) (terminal : TerminalData) (past : List Moment) (s : Standing) (c : Channel) (burst : Burst) (last : Option Order) →
+    ignored_from k (heard_on c past) (mark_on s.sent c) ≡ false → (mark_on s.addressed c ≡ None → last ≡ None) →
+    IsNewerIf k past s (order_by k terminal s c burst last)
+newer-last k terminal past s c burst (Some last) heard marked =
+    by-test (IsNewerIf k past s) (outrun s c) None (Some (obeys c (end_of burst) last (rest_of burst))) (λ _. tt)
+    (λ newer. (one-newer c (mark_on s.addressed c) (mark_on s.addressed (other_of c)) (λ none. (let no : Some last ≡ None = marked none in cc)) newer, heard))
+newer-last k terminal past s c burst None heard marked =
+    by-test (IsNewerIf k past s) (promised_on k s c && nat_le burst.first (s.end + relay_wait)) (Some (settles (end_of burst) burst.slots (rest_of burst))) None
     (λ both. let parts = promised-parts (is_promise s.duty) (same_channel s.channel c) (superseded k s) (nat_le burst.first (s.end + relay_wait)) both in
-    (promise-left s.duty parts.0, parts.1))
+    let on : c ≡ s.channel = sym (same-true s.channel c parts.2) in
+    (promise-left s.duty parts.0, parts.1, subst (λ (d : Channel). ignored_from k (heard_on d past) (mark_on s.sent d) ≡ false) on heard))
     (λ _. tt)
 
 newer-ended : (k : ℕ) (terminal : TerminalData) (now : Moment) (past : List Moment) (s : Standing) (c : Channel) (o : Option Burst) →
-    (mark_on s.addressed c ≡ None → last_order terminal.address (running_slots k (heard_on c past)) ≡ None) → ended_now k (heard_on c (now ∷ past)) ≡ o →
-    IsNewerIf k s (order_of k terminal s c o)
-newer-ended k terminal now past s c None bare e = tt
-newer-ended k terminal now past s c (Some burst) bare e =
-    newer-last k terminal s c burst (last_order terminal.address burst.slots)
+    ignored_from k (heard_on c past) (mark_on s.sent c) ≡ false → (mark_on s.addressed c ≡ None → last_order terminal.address (running_slots k (heard_on c past)) ≡ None) → ended_now k (heard_on c (now ∷ past)) ≡ o →
+    IsNewerIf k past s (order_of k terminal s c o)
+newer-ended k terminal now past s c None heard bare e = tt
+newer-ended k terminal now past s c (Some burst) heard bare e =
+    newer-last k terminal past s c burst (last_order terminal.address burst.slots) heard
     (λ none. ap (last_order terminal.address) (end-closes k (sample_on now.shown c) (heard_on c past) burst e).slots ∙ bare none)
 
 on-newer : (k : ℕ) (terminal : TerminalData) (now : Moment) (past : List Moment) (s : Standing) (c : Channel) → AreMarked k terminal.address past s →
-    IsNewerIf k s (order_on k terminal (now ∷ past) s c)
+    IsNewerIf k past s (order_on k terminal (now ∷ past) s c)
 on-newer k terminal now past s c marked =
-    by-test (IsNewerIf k s) (ignored_from k (heard_on c past) (mark_on s.sent c)) None
+    by-test (IsNewerIf k past s) (ignored_from k (heard_on c past) (mark_on s.sent c)) None
     (order_of k terminal s c (ended_now k (heard_on c (now ∷ past)))) (λ _. tt)
-    (λ heard. newer-ended k terminal now past s c (ended_now k (heard_on c (now ∷ past))) (marked.on c heard) refl)
+    (λ heard. newer-ended k terminal now past s c (ended_now k (heard_on c (now ∷ past))) heard (marked.on c heard) refl)
 
-either-newer : (k : ℕ) (s : Standing) (a b : Option Handled) → IsNewerIf k s a → IsNewerIf k s b → IsNewerIf k s (option_or a b)
-either-newer k s None b p q = q
-either-newer k s (Some order) b p q = p
+either-newer : (k : ℕ) (past : List Moment) (s : Standing) (a b : Option Handled) → IsNewerIf k past s a → IsNewerIf k past s b → IsNewerIf k past s (option_or a b)
+either-newer k past s None b p q = q
+either-newer k past s (Some order) b p q = p
 
-out-newer : (k : ℕ) (s : Standing) (b : Bool) → IsNewerIf k s (if b then Some runs_out else None)
-out-newer k s true = tt
-out-newer k s false = tt
+out-newer : (k : ℕ) (past : List Moment) (s : Standing) (b : Bool) → IsNewerIf k past s (if b then Some runs_out else None)
+out-newer k past s true = tt
+out-newer k past s false = tt
 
-now-newer : (k : ℕ) (terminal : TerminalData) (now : Moment) (past : List Moment) (s : Standing) (order : Handled) → AreMarked k terminal.address past s →
-    order_now k terminal (now ∷ past) s ≡ Some order → IsNewer k s order
+pub now-newer : (k : ℕ) (terminal : TerminalData) (now : Moment) (past : List Moment) (s : Standing) (order : Handled) → AreMarked k terminal.address past s →
+    order_now k terminal (now ∷ past) s ≡ Some order → IsNewer k past s order
 now-newer k terminal now past s order marked e =
-    let all : IsNewerIf k s (order_now k terminal (now ∷ past) s) =
-    either-newer k s (order_on k terminal (now ∷ past) s A) _ (on-newer k terminal now past s A marked)
-    (either-newer k s (order_on k terminal (now ∷ past) s B) _ (on-newer k terminal now past s B marked)
-    (out-newer k s (promised_on k s s.channel && (length (now ∷ past) == suc (s.end + relay_wait)) && not (heard_within (heard_on s.channel (now ∷ past)) s.end (length (now ∷ past)))))) in
-    subst (IsNewerIf k s) e all
+    let all : IsNewerIf k past s (order_now k terminal (now ∷ past) s) =
+    either-newer k past s (order_on k terminal (now ∷ past) s A) _ (on-newer k terminal now past s A marked)
+    (either-newer k past s (order_on k terminal (now ∷ past) s B) _ (on-newer k terminal now past s B marked)
+    (out-newer k past s (promised_on k s s.channel && (length (now ∷ past) == suc (s.end + relay_wait)) && not (heard_within (heard_on s.channel (now ∷ past)) s.end (length (now ∷ past)))))) in
+    subst (IsNewerIf k past s) e all
 
 -- what an order leaves is newer than the commands on the other channel
 left-newest : (k : ℕ) (terminal : TerminalData) (now : Moment) (past : List Moment) (s : Standing) (memory : Memory) (may : Bool) (order : Handled) →
     (is_left s.duty ≡ true → IsNewest k (length past) s) → ((c : Channel) → IfSome (mark_on s.addressed c) (λ m. m < length past)) →
-    Ends k (now ∷ past) s order → IsNewer k s order →
+    Ends k (now ∷ past) s order → IsNewer k past s order →
     is_left (after_order s order (done_by k terminal s memory may order)).duty ≡ true →
     IsNewest k (suc (length past)) (marked_by k terminal now past s (after_order s order (done_by k terminal s memory may order)))
 left-newest k terminal now past s memory may (obeys c end order rest) before marks (burst, e, at) newer left =
     newest-tick k terminal now past s (after_order s (obeys c end order rest) (done_by k terminal s memory may (obeys c end order rest)))
-    (omega (arith, (ended-place k (heard_on c (now ∷ past)) burst e).0, length-heard c (now ∷ past), at)) (marks (other_of c)) (λ _. newer)
+    (omega (arith, (ended-place k (heard_on c (now ∷ past)) burst e).0, length-heard c (now ∷ past), at)) (marks (other_of c)) (λ _. newer.0)
 left-newest k terminal now past s memory may (settles end slots rest) before marks (burst, e, at) newer left =
     newest-tick k terminal now past s (after_order s (settles end slots rest) (done_by k terminal s memory may (settles end slots rest)))
     (omega (arith, (ended-place k (heard_on s.channel (now ∷ past)) burst e).0, length-heard s.channel (now ∷ past), at)) (marks (other_of s.channel))

@@ -115,7 +115,7 @@ addressed-of : (k : ℕ) (terminal : TerminalData) (now : Moment) (past : List M
 addressed-of k terminal now past s after A = refl
 addressed-of k terminal now past s after B = refl
 
-sent-of : (k : ℕ) (terminal : TerminalData) (now : Moment) (past : List Moment) (s after : Standing) (c : Channel) →
+pub sent-of : (k : ℕ) (terminal : TerminalData) (now : Moment) (past : List Moment) (s after : Standing) (c : Channel) →
     mark_on (marked_by k terminal now past s after).sent c ≡ sent_on k terminal past s c
 sent-of k terminal now past s after A = refl
 sent-of k terminal now past s after B = refl

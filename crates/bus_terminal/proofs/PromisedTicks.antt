@@ -12,11 +12,11 @@ use Rattle.bus_model.specs.Waits.{relay_wait}
 use Rattle.bus_model.specs.Memory.{TimedLoad}
 use Rattle.bus_model.specs.Orders.{due_after}
 use Rattle.bus_model.specs.Hearing.{Moment, heard_on}
-use Rattle.bus_model.specs.Standing.{Standing, superseded, is_owed, promised_on, runs_out}
+use Rattle.bus_model.specs.Standing.{Standing, mark_on, ignored_from, superseded, is_owed, promised_on, runs_out}
 use Rattle.bus_model.specs.Terminal.{marked_by, order_now, given_up, running_out}
 use Rattle.bus_terminal.specs.Holding.{EarsStand, Listens}
 use Rattle.bus_terminal.specs.Handling.{handled_told, Awaits, AreHandled, IsWaiting, out_with}
-use Rattle.bus_terminal.specs.Stands.{CommonStands, PromisedStands, NextStands, StateStands}
+use Rattle.bus_terminal.specs.Stands.{CommonStands, PromisedStands, NextStands, StateStands, IsAwaited}
 use Rattle.bus_terminal.specs.Steps.{promised_on_told}
 use Rattle.bus_terminal.specs.declared.common.Common.{Common}
 use Rattle.bus_terminal.specs.declared.handling.Waiting.{Waiting}
@@ -30,6 +30,8 @@ use Rattle.bus_terminal.proofs.Standing.{rests-superseded}
 use Rattle.bus_terminal.proofs.Found.{promised-with}
 use Rattle.bus_terminal.proofs.Listened.{none-next, common-kept}
 use Rattle.bus_terminal.proofs.Ticks.{listens-none}
+use Rattle.bus_terminal.proofs.Heeding.{heeded-tick}
+use Rattle.bus_terminal.proofs.Awaited.{awaited-more}
 
 none-owed : (o d u : Bool) → o ≡ false → (o && d && u) ≡ false
 none-owed false d u h = refl
@@ -98,11 +100,12 @@ not-yet n e since out low quiet_still is none = grind (arith, nat_tests, low, qu
 
 promised-left : (k : ℕ) (terminal : TerminalData) (loads : List TimedLoad) (common : Common) (past : List Moment) (s : Standing) (w : Waiting) (heard newer : Bool) →
     CommonStands k terminal loads common past s → IsWaiting w s → heard ≡ heard_within (heard_on s.channel past) s.end (length past) → newer ≡ superseded k s →
-    (heard ≡ false → length past ≤ s.end + relay_wait) → StateStands k terminal loads (promised_on_told common w heard newer) past s
-promised-left k terminal loads common past s w heard true same is since newer_is within =
+    (heard ≡ false → length past ≤ s.end + relay_wait) → (heard ≡ true → IsAwaited k (heard_on s.channel past) s.end) →
+    ignored_from k (heard_on s.channel past) (mark_on s.sent s.channel) ≡ false → StateStands k terminal loads (promised_on_told common w heard newer) past s
+promised-left k terminal loads common past s w heard true same is since newer_is within awaited heeded =
     record { common = same; rests_now = rests-superseded k terminal past s s.duty (sym newer_is) }
-promised-left k terminal loads common past s w heard false same is since newer_is within =
-    record { common = same; waiting = is; fresh = sym newer_is; heard = since; within = within }
+promised-left k terminal loads common past s w heard false same is since newer_is within awaited heeded =
+    record { common = same; waiting = is; fresh = sym newer_is; heard = since; within = within; awaited = awaited; heeded = heeded }
 
 pub promised-none : (k : ℕ) (terminal : TerminalData) (loads : List TimedLoad) (state : Promised) (common : Common) (past : List Moment) (now : Moment) (s : Standing) (now_heard out newer : Bool) →
     PromisedStands k terminal loads state past s → order_now k terminal (now ∷ past) s ≡ None → common.plan ≡ state.common.plan → common.memory ≡ state.common.memory →
@@ -120,7 +123,8 @@ promised-none k terminal loads state common past now s now_heard out newer st no
       st.waiting.end,
       not-yet (length past) (state.waiting.end + relay_wait) (state.heard || now_heard) out
           (omega (arith, st.waiting.end, st.within (or-false state.heard now_heard still))) still out_is not_out,
-    )))
+    )) (awaited-more k terminal loads state past now s now_heard st none heard_is)
+    (heeded-tick k terminal now past s s s.channel (sym (promised-listens k terminal loads state past s st s.channel)) st.heeded))
 
 pub last-none : {X : Type 0} (a b : Option X) (x : X) (out : Bool) → option_or a (option_or b (if out then Some x else None)) ≡ None → out ≡ false
 last-none a b x false e = refl

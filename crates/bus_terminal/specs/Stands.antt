@@ -1,14 +1,15 @@
 -- For which hearings the states of a terminal stand.
 use Rattle.std.specs.Prelude.{◌≡◌, ℕ, suc, ◌+◌, ◌<◌, ◌≤◌, Bool, true, false, ◌||◌, List, [], ◌∷◌, length, Option, Some, None, is_some, ⊤}
 use Rattle.bus_base.specs.declared.samples.Channel.{Channel}
-use Rattle.bus_line.specs.Past.{heard_within}
+use Rattle.bus_base.specs.declared.samples.Sample.{Sample}
+use Rattle.bus_line.specs.Past.{heard_within, runs, first_tick}
 use Rattle.bus_formats.specs.Plans.{TerminalData}
 use Rattle.bus_formats.specs.Times.{dead_ticks}
 use Rattle.bus_model.specs.Waits.{relay_wait}
 use Rattle.bus_model.specs.Memory.{Memory, TimedLoad, with_loads}
 use Rattle.bus_model.specs.Orders.{Duty, free, owes, promises, due_after, Taken}
 use Rattle.bus_model.specs.Hearing.{Moment, heard_on}
-use Rattle.bus_model.specs.Standing.{Standing, at_rest, mark_on, superseded, Handled, obeys}
+use Rattle.bus_model.specs.Standing.{Standing, at_rest, mark_on, ignored_from, superseded, Handled, obeys}
 use Rattle.bus_model.specs.Terminal.{given_up, is_over, after_tick, order_now, taken_by}
 use Rattle.bus_terminal.specs.Holding.{EarsStand}
 use Rattle.bus_terminal.specs.Quiet.{quiet_moments}
@@ -60,13 +61,21 @@ pub record ListeningStands (k : ℕ) (terminal : TerminalData) (loads : List Tim
   pub common : CommonStands k terminal loads state.common past s
   pub rests_now : rests k terminal past s s.duty ≡ true
 
--- at most 30 dead ticks since the relay's command burst, or something was heard since
+-- the burst that runs on a channel began after at most 30 dead ticks, counted from an end
+pub record IsAwaited (k : ℕ) (heard : List Sample) (end : ℕ) : Type 0 where
+  pub running : runs k heard ≡ true
+  pub after : end ≤ first_tick k heard
+  pub soon : first_tick k heard ≤ end + relay_wait
+
+-- at most 30 dead ticks passed since the relay's command burst, or the awaited burst runs; its channel isn't ignored
 pub record PromisedStands (k : ℕ) (terminal : TerminalData) (loads : List TimedLoad) (state : Promised) (past : List Moment) (s : Standing) : Type 0 where
   pub common : CommonStands k terminal loads state.common past s
   pub waiting : IsWaiting state.waiting s
   pub fresh : superseded k s ≡ false
   pub heard : state.heard ≡ heard_within (heard_on s.channel past) s.end (length past)
   pub within : state.heard ≡ false → length past ≤ s.end + relay_wait
+  pub awaited : state.heard ≡ true → IsAwaited k (heard_on s.channel past) s.end
+  pub heeded : ignored_from k (heard_on s.channel past) (mark_on s.sent s.channel) ≡ false
 
 pub record IsSending (sends : Sends) (s : Standing) : Type 0 where
   pub channel : s.channel ≡ sends.channel
