@@ -1,11 +1,10 @@
 -- An order that is handled leaves a state that stands.
-use Rattle.std.proofs.Common.{◌≡◌, ℕ, suc, ◌+◌, ◌≤◌, Bool, List, ◌∷◌, length, Some, refl, sym, ap, ◌∙◌, arith, inl, inr, ◌⊎◌}
+use Rattle.std.proofs.Common.{◌≡◌, ℕ, suc, ◌+◌, ◌≤◌, Bool, List, ◌∷◌, length, Some, refl, sym, ap, ◌∙◌, arith, inl, inr}
 use Rattle.bus_base.specs.declared.samples.Channel.{Channel}
-use Rattle.bus_line.specs.Past.{quiet}
 use Rattle.bus_formats.specs.Plans.{TerminalData}
 use Rattle.bus_formats.specs.Times.{dead_ticks}
 use Rattle.bus_model.specs.Memory.{Memory, TimedLoad, with_loads}
-use Rattle.bus_model.specs.Orders.{Obeyed, free}
+use Rattle.bus_model.specs.Orders.{Obeyed}
 use Rattle.bus_model.specs.Hearing.{Moment, heard_on}
 use Rattle.bus_model.specs.Standing.{Standing, obeys, settles, runs_out, Handled, superseded, is_owed}
 use Rattle.bus_model.specs.Terminal.{done_by, after_order, marked_by, order_now}

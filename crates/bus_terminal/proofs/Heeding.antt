@@ -1,7 +1,7 @@
 -- The channel of an order isn't ignored, in the tick of the order and after it.
-use Rattle.std.proofs.Common.{◌≡◌, ℕ, suc, ◌+◌, ◌-◌, ◌<◌, ◌≤◌, Bool, true, false, not, ◌&&◌, ◌||◌, ◌==◌, List, [], ◌∷◌, length, Option, Some, None, refl, sym, ap, ◌∙◌, subst, arith, inl, inr, if◌then◌else◌}
+use Rattle.std.proofs.Common.{◌≡◌, ℕ, suc, ◌<◌, ◌≤◌, Bool, true, false, not, ◌&&◌, ◌||◌, ◌==◌, List, [], ◌∷◌, length, Option, Some, None, refl, sym, ap, ◌∙◌, arith, inl, inr}
 use Rattle.std.specs.Prelude.{is_none}
-use Rattle.std.proofs.lemmas.Bool.{cases_Bool, cases_lt, eqb-true}
+use Rattle.std.proofs.lemmas.Bool.{cases_Bool, eqb-true}
 use Rattle.bus_base.specs.Samples.{same_channel, sample_on}
 use Rattle.bus_base.specs.declared.samples.Channel.{Channel}
 use Rattle.bus_base.specs.declared.samples.Sample.{Sample}
@@ -16,7 +16,7 @@ use Rattle.bus_model.specs.Hearing.{Moment, heard_on}
 use Rattle.bus_model.specs.Standing.{Standing, mark_on, ignored_from, is_owed, superseded}
 use Rattle.bus_model.specs.Terminal.{given_up, begins, sent_on, marked_by}
 use Rattle.bus_terminal.proofs.Heard.{length-heard}
-use Rattle.bus_terminal.proofs.Within.{within-more, within-early}
+use Rattle.bus_terminal.proofs.Within.{within-more}
 use Rattle.bus_terminal.proofs.Ends.{ended-place, same-true}
 use Rattle.bus_terminal.proofs.Newest.{sent-of}
 

@@ -21,7 +21,9 @@ use bus_ears::HeardBurst;
 use bus_line::sample_of;
 use bus_words::Word;
 
-/// Its answer has begun so many ticks ago, or begins in the next tick.
+/// Its answer began `sent` ticks ago, or begins in the next tick: its own dead ticks passed (response time, MIL-STD-1553B 4.3.3.8), and since the
+/// answer's first tick its channel wasn't quiet for four ticks in a row. Left at the fourth quiet tick in a row there, or at a newer command on
+/// the other channel (4.4.3.2).
 #[derive(Drop)]
 pub struct Answering {
     pub(crate) common: Common,

@@ -49,8 +49,8 @@ impl Terminal {
     }
 
     /// Hears what both channels show in the tick `now`, which follows the last tick heard. `may_accept` says that the terminal's station has
-    /// items left. It tells the block that it took whole in this tick, or else that it accepted control: the end of an answer with acceptance,
-    /// as long as a status word at least, is known in this tick (MIL-STD-1553B 4.3.3.5.1.7.1).
+    /// items left. It tells the block that it took whole in this tick, or that it accepted control: the end of an answer with acceptance, as long
+    /// as a status word at least, is known in this tick (MIL-STD-1553B 4.3.3.5.1.7.1). No tick has both.
     pub fn hear(&mut self, now: Tick, heard: Pair, may_accept: bool) -> TerminalEvent
         requires { (plan : TerminalData) × (loads : List TimedLoad) × (hearing : Hearing) × TerminalStands LAG plan loads self.old hearing
             × (length hearing.ticks ≡ now.0) × (now.0 < 2 ^ 60) }
