@@ -32,6 +32,7 @@ status-some due end (Some burst) h = elim (cases_Bool ((burst.first == due) && n
   | inr other ↦ (let none : heard_status due (Some burst) ≡ None = rw other refl in let no : None ≡ Some end = sym none ∙ h in cc)
 ]
 
+-- an answer that accepts
 accepted-status : (b : Bool) (o : Option ℕ) (end : ℕ) → (if b then o else None) ≡ Some end → o ≡ Some end
 accepted-status true o end h = h
 accepted-status false o end h = cc
@@ -52,6 +53,7 @@ has-begun k terminal loads state now past s end st is =
 
 -- ---- no order on either channel
 
+-- an option without a value
 some-none : (o : Option ℕ) → is_some o ≡ false → is_none o ≡ true
 some-none None h = refl
 some-none (Some n) h = cc
@@ -66,38 +68,47 @@ own-none k terminal loads state now past s st some =
     rw ignored refl
 
 -- a command on the other is older
-older-by : (k : ℕ) (terminal : TerminalData) (s : Standing) (c : Channel) (burst : Burst) (last : Option Order) → outrun s c ≡ true → promised_on k s c ≡ false →
+older-by : (k : ℕ) (terminal : TerminalData) (s : Standing) (c : Channel) (burst : Burst) (last : Option Order) → outrun s c ≡ true →
+    promised_on k s c ≡ false →
     order_by k terminal s c burst last ≡ None
 older-by k terminal s c burst (Some last) older none = rw older refl
 older-by k terminal s c burst None older none = rw none refl
 
+-- by the burst whose end is known, or none
 older-of : (k : ℕ) (terminal : TerminalData) (s : Standing) (c : Channel) (o : Option Burst) → outrun s c ≡ true → promised_on k s c ≡ false →
     order_of k terminal s c o ≡ None
 older-of k terminal s c None older none = refl
 older-of k terminal s c (Some burst) older none = older-by k terminal s c burst (last_order terminal.address burst.slots) older none
 
+-- an ignored channel has no order
 either : (b : Bool) (o : Option Handled) → o ≡ None → (if b then None else o) ≡ None
 either true o e = refl
 either false o e = e
 
-other-none : (k : ℕ) (terminal : TerminalData) (now : Moment) (past : List Moment) (s : Standing) (c : Channel) → outrun s c ≡ true → promised_on k s c ≡ false →
+-- so there is no order on the other channel
+other-none : (k : ℕ) (terminal : TerminalData) (now : Moment) (past : List Moment) (s : Standing) (c : Channel) → outrun s c ≡ true →
+    promised_on k s c ≡ false →
     order_on k terminal (now ∷ past) s c ≡ None
 other-none k terminal now past s c older none =
     either (ignored_from k (heard_on c past) (mark_on s.sent c)) (order_of k terminal s c (ended_now k (heard_on c (now ∷ past))))
     (older-of k terminal s c (ended_now k (heard_on c (now ∷ past))) older none)
 
+-- the older command is outrun by the newer
 turned : (s : Standing) (c : Channel) → is_newer c (mark_on s.addressed c) (mark_on s.addressed (other_of c)) ≡ true → outrun s (other_of c) ≡ true
 turned s A h = h
 turned s B h = h
 
+-- no order on either channel, and no promise that runs out
 both-none : (k : ℕ) (terminal : TerminalData) (heard : List Moment) (s : Standing) (c : Channel) → order_on k terminal heard s c ≡ None →
     order_on k terminal heard s (other_of c) ≡ None → running_out k terminal heard s ≡ None → order_now k terminal heard s ≡ None
 both-none k terminal heard s A own other out = rw (own, other) out
 both-none k terminal heard s B own other out = rw (other, own) out
 
+-- without a promise none runs out
 no-waiting : (k : ℕ) (terminal : TerminalData) (heard : List Moment) (s : Standing) → promised_on k s s.channel ≡ false → running_out k terminal heard s ≡ None
 no-waiting k terminal heard s none = rw none refl
 
+-- a tick in which control is accepted has no order
 alone : (k : ℕ) (terminal : TerminalData) (loads : List TimedLoad) (state : Answering) (now : Moment) (past : List Moment) (s : Standing) (end : ℕ) →
     AnsweringStands k terminal loads state past s → accepted_on k terminal loads now past s ≡ Some end → order_now k terminal (now ∷ past) s ≡ None
 alone k terminal loads state now past s end st is =
@@ -109,7 +120,8 @@ alone k terminal loads state now past s end st is =
     (no-waiting k terminal (now ∷ past) s (none s.channel))
 
 -- so where there is an order nothing is accepted
-pub ordered-accepts : (k : ℕ) (terminal : TerminalData) (loads : List TimedLoad) (state : Answering) (now : Moment) (past : List Moment) (s : Standing) (order : Handled) →
+pub ordered-accepts : (k : ℕ) (terminal : TerminalData) (loads : List TimedLoad) (state : Answering) (now : Moment) (past : List Moment)
+    (s : Standing) (order : Handled) →
     AnsweringStands k terminal loads state past s → order_now k terminal (now ∷ past) s ≡ Some order → accepted_on k terminal loads now past s ≡ None
 ordered-accepts k terminal loads state now past s order st is = go (accepted_on k terminal loads now past s) refl where
   go : (o : Option ℕ) → accepted_on k terminal loads now past s ≡ o → accepted_on k terminal loads now past s ≡ None

@@ -30,10 +30,12 @@ use Rattle.bus_terminal.proofs.Heeding.{last-within}
 
 -- ---- the end of a burst on the promise's channel is no tick without an order
 
+-- a channel is itself
 self : (c : Channel) → same_channel c c ≡ true
 self A = refl
 self B = refl
 
+-- the promise that stands is for its own channel
 pub promised-here : (k : ℕ) (w : Waiting) (s : Standing) → Awaits k (Some w) s → promised_on k s s.channel ≡ true
 promised-here k w s h = promised-with k w s s.channel h ∙ ap (λ (c : Channel). same_channel c s.channel) (sym h.0.channel) ∙ self s.channel
 
@@ -44,7 +46,9 @@ not-outrun c (Some m) None h = refl
 not-outrun A (Some m) (Some t) h = grind (arith, nat_tests, h)
 not-outrun B (Some m) (Some t) h = grind (arith, nat_tests, h)
 
-taken-by : (k : ℕ) (terminal : TerminalData) (s : Standing) (c : Channel) (burst : Burst) (last : Option Order) → outrun s c ≡ false → promised_on k s c ≡ true →
+-- a burst that ended is obeyed or taken for the promise
+taken-by : (k : ℕ) (terminal : TerminalData) (s : Standing) (c : Channel) (burst : Burst) (last : Option Order) → outrun s c ≡ false →
+    promised_on k s c ≡ true →
     burst.first ≤ s.end + relay_wait → order_by k terminal s c burst last ≡ None → ⊥
 taken-by k terminal s c burst (Some last) newer promise soon h =
     (let some : order_by k terminal s c burst (Some last) ≡ Some (obeys c (end_of burst) last (rest_of burst)) = rw newer refl in cc)
@@ -52,17 +56,22 @@ taken-by k terminal s c burst None newer promise soon h =
     (let early : nat_le burst.first (s.end + relay_wait) ≡ true = le-leb burst.first (s.end + relay_wait) soon in
     let some : order_by k terminal s c burst None ≡ Some (settles (end_of burst) burst.slots (rest_of burst)) = rw (promise, early) refl in cc)
 
+-- without an order in a tick there is none on either channel
 parts-none : (a b o : Option Handled) → option_or a (option_or b o) ≡ None → (a ≡ None) × (b ≡ None)
 parts-none None None o h = (refl, refl)
 parts-none None (Some x) o h = cc
 parts-none (Some x) b o h = cc
 
-channel-none : (k : ℕ) (terminal : TerminalData) (heard : List Moment) (s : Standing) (c : Channel) → order_now k terminal heard s ≡ None → order_on k terminal heard s c ≡ None
+-- by channel
+channel-none : (k : ℕ) (terminal : TerminalData) (heard : List Moment) (s : Standing) (c : Channel) → order_now k terminal heard s ≡ None →
+    order_on k terminal heard s c ≡ None
 channel-none k terminal heard s A h = (parts-none (order_on k terminal heard s A) (order_on k terminal heard s B) (running_out k terminal heard s) h).0
 channel-none k terminal heard s B h = (parts-none (order_on k terminal heard s A) (order_on k terminal heard s B) (running_out k terminal heard s) h).1
 
+-- so no burst ends on the promise's channel in a tick without an order
 ends-taken : (k : ℕ) (terminal : TerminalData) (now : Moment) (past : List Moment) (s : Standing) (c : Channel) (burst : Burst) →
-    ignored_from k (heard_on c past) (mark_on s.sent c) ≡ false → ended_now k (heard_on c (now ∷ past)) ≡ Some burst → outrun s c ≡ false → promised_on k s c ≡ true →
+    ignored_from k (heard_on c past) (mark_on s.sent c) ≡ false → ended_now k (heard_on c (now ∷ past)) ≡ Some burst → outrun s c ≡ false →
+    promised_on k s c ≡ true →
     burst.first ≤ s.end + relay_wait → order_now k terminal (now ∷ past) s ≡ None → ⊥
 ends-taken k terminal now past s c burst heeded ended newer promise soon none =
     let by : order_on k terminal (now ∷ past) s c ≡ order_by k terminal s c burst (last_order terminal.address burst.slots) = rw (heeded, ended) refl in
@@ -70,6 +79,7 @@ ends-taken k terminal now past s c burst heeded ended newer promise soon none =
 
 -- ---- one tick more
 
+-- a burst runs no more with its k + 1st quiet tick
 ended-quiet : (k : ℕ) (heard : List Sample) → runs k heard ≡ true → runs k (Quiet ∷ heard) ≡ false → quiet heard ≡ k
 ended-quiet k heard on off =
     let parts = runs-parts k heard on in
@@ -80,16 +90,19 @@ ended-quiet k heard on off =
     ]
 
 -- a burst that ran and runs no more has its end
-ended-then : (k : ℕ) (x : Sample) (heard : List Sample) → runs k heard ≡ true → runs k (x ∷ heard) ≡ false → ended_now k (x ∷ heard) ≡ Some (newest_burst k heard)
+ended-then : (k : ℕ) (x : Sample) (heard : List Sample) → runs k heard ≡ true → runs k (x ∷ heard) ≡ false →
+    ended_now k (x ∷ heard) ≡ Some (newest_burst k heard)
 ended-then k Plus heard on off = (let no : true ≡ false = sym (runs-pulse k Plus heard refl) ∙ off in cc)
 ended-then k Minus heard on off = (let no : true ≡ false = sym (runs-pulse k Minus heard refl) ∙ off in cc)
 ended-then k Quiet heard on off = ended-more k heard on (ended-quiet k heard on off)
 
+-- of the marks that stand
 turned : (s : Standing) (c : Channel) → is_newer c (mark_on s.addressed c) (mark_on s.addressed (other_of c)) ≡ true → outrun s c ≡ false
 turned s c h = not-outrun c (mark_on s.addressed c) (mark_on s.addressed (other_of c)) h
 
 -- the awaited burst runs on
-awaited-on : (k : ℕ) (terminal : TerminalData) (loads : List TimedLoad) (state : Promised) (past : List Moment) (now : Moment) (s : Standing) → PromisedStands k terminal loads state past s →
+awaited-on : (k : ℕ) (terminal : TerminalData) (loads : List TimedLoad) (state : Promised) (past : List Moment) (now : Moment) (s : Standing) →
+    PromisedStands k terminal loads state past s →
     order_now k terminal (now ∷ past) s ≡ None → IsAwaited k (heard_on s.channel past) s.end → IsAwaited k (heard_on s.channel (now ∷ past)) s.end
 awaited-on k terminal loads state past now s st none h = elim (cases_Bool (runs k (heard_on s.channel (now ∷ past)))) [
   | inl on ↦ (
@@ -105,7 +118,8 @@ awaited-on k terminal loads state past now s st none h = elim (cases_Bool (runs 
 ]
 
 -- or it begins
-awaited-first : (k : ℕ) (terminal : TerminalData) (loads : List TimedLoad) (state : Promised) (past : List Moment) (now : Moment) (s : Standing) → PromisedStands k terminal loads state past s →
+awaited-first : (k : ℕ) (terminal : TerminalData) (loads : List TimedLoad) (state : Promised) (past : List Moment) (now : Moment) (s : Standing) →
+    PromisedStands k terminal loads state past s →
     state.heard ≡ false → is_quiet (sample_on now.shown s.channel) ≡ false → IsAwaited k (heard_on s.channel (now ∷ past)) s.end
 awaited-first k terminal loads state past now s st none pulse =
     let heard : List Sample = heard_on s.channel past in
@@ -125,17 +139,22 @@ awaited-first k terminal loads state past now s st none pulse =
       soon = omega (arith, first, long, st.within none);
     }
 
+-- a sample that was heard
 not-quiet : (b : Bool) → not b ≡ true → b ≡ false
 not-quiet true h = cc
 not-quiet false h = refl
 
-pub awaited-more : (k : ℕ) (terminal : TerminalData) (loads : List TimedLoad) (state : Promised) (past : List Moment) (now : Moment) (s : Standing) (now_heard : Bool) →
-    PromisedStands k terminal loads state past s → order_now k terminal (now ∷ past) s ≡ None → now_heard ≡ not (is_quiet (sample_on now.shown state.waiting.channel)) →
+-- either, with what was heard so far
+pub awaited-more : (k : ℕ) (terminal : TerminalData) (loads : List TimedLoad) (state : Promised) (past : List Moment) (now : Moment) (s : Standing)
+    (now_heard : Bool) →
+    PromisedStands k terminal loads state past s → order_now k terminal (now ∷ past) s ≡ None →
+    now_heard ≡ not (is_quiet (sample_on now.shown state.waiting.channel)) →
     (state.heard || now_heard) ≡ true → IsAwaited k (heard_on s.channel (now ∷ past)) s.end
 awaited-more k terminal loads state past now s now_heard st none is some = elim (cases_Bool state.heard) [
   | inl heard ↦ awaited-on k terminal loads state past now s st none (st.awaited heard)
   | inr silent ↦ (
       let here : now_heard ≡ true = ap (λ (b : Bool). b || now_heard) (sym silent) ∙ some in
-      let pulse : is_quiet (sample_on now.shown state.waiting.channel) ≡ false = not-quiet (is_quiet (sample_on now.shown state.waiting.channel)) (sym is ∙ here) in
+      let pulse : is_quiet (sample_on now.shown state.waiting.channel) ≡ false = not-quiet (is_quiet (sample_on now.shown state.waiting.channel))
+      (sym is ∙ here) in
       awaited-first k terminal loads state past now s st silent (ap (λ (c : Channel). is_quiet (sample_on now.shown c)) st.waiting.channel ∙ pulse))
 ]

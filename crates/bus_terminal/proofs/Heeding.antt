@@ -40,6 +40,7 @@ quiet-before k Quiet past h = omega (arith, h)
 
 -- ---- no answer begins in the tick of an order on its channel
 
+-- the parts of the test for an answer that begins
 four-true : (p q r t : Bool) → (p && q && not r && t) ≡ true → (q ≡ true) × (r ≡ false) × (t ≡ true)
 four-true true true false true h = (refl, refl, refl)
 four-true true true false false h = cc
@@ -47,11 +48,14 @@ four-true true true true t h = cc
 four-true true false r t h = cc
 four-true false q r t h = cc
 
+-- neither of two
 or-second : (a b : Bool) → (a || b) ≡ false → b ≡ false
 or-second false b h = h
 or-second true b h = cc
 
-begins-not : (k : ℕ) (terminal : TerminalData) (now : Moment) (past : List Moment) (s : Standing) (c : Channel) (burst : Burst) → suc k ≤ dead_ticks terminal.delay →
+-- its channel would have been quiet since the end of the burst that it answers, but a burst ended there later
+begins-not : (k : ℕ) (terminal : TerminalData) (now : Moment) (past : List Moment) (s : Standing) (c : Channel) (burst : Burst) →
+    suc k ≤ dead_ticks terminal.delay →
     ended_now k (heard_on c (now ∷ past)) ≡ Some burst → (begins k terminal past s && same_channel s.channel c) ≡ false
 begins-not k terminal now past s c burst prompt e = elim (cases_Bool (begins k terminal past s && same_channel s.channel c)) [
   | inr none ↦ none
@@ -60,7 +64,8 @@ begins-not k terminal now past s c burst prompt e = elim (cases_Bool (begins k t
       let parts = four-true (is_owed s.duty) (length past == due) (given_up k terminal (heard_on s.channel past) s) (same_channel s.channel c) begun in
       let here : length past ≡ due = eqb-true (length past) due parts.0 in
       let on : s.channel ≡ c = same-true s.channel c parts.2 in
-      let still : heard_within (heard_on s.channel past) s.end due ≡ false = or-second (superseded k s) (heard_within (heard_on s.channel past) s.end due) parts.1 in
+      let still : heard_within (heard_on s.channel past) s.end due ≡ false = or-second (superseded k s) (heard_within
+      (heard_on s.channel past) s.end due) parts.1 in
       let before : quiet (heard_on c past) ≡ k = quiet-before k (sample_on now.shown c) (heard_on c past) (ended-place k (heard_on c (now ∷ past)) burst e).1 in
       let heard : heard_within (heard_on c past) s.end due ≡ true =
       last-within (heard_on c past) s.end due (omega (arith, before, length-heard c past, here, prompt)) (omega (arith, length-heard c past, here)) in
@@ -70,11 +75,13 @@ begins-not k terminal now past s c burst prompt e = elim (cases_Bool (begins k t
 
 -- ---- a channel that isn't ignored
 
+-- an end that was found stays found
 heeded-found : (k : ℕ) (x : Sample) (past : List Sample) (first : ℕ) (o : Option ℕ) → end_since k past first ≡ o → is_none o ≡ false →
     is_none (end_since k (x ∷ past) first) ≡ false
 heeded-found k x past first None e h = cc
 heeded-found k x past first (Some end) e h = ap is_none (end_since-stays k x past first end e)
 
+-- a tick more ignores no channel by itself
 pub heeded-stays : (k : ℕ) (x : Sample) (past : List Sample) (sent : Option ℕ) → ignored_from k past sent ≡ false → ignored_from k (x ∷ past) sent ≡ false
 heeded-stays k x past None h = refl
 heeded-stays k x past (Some first) h = heeded-found k x past first (end_since k past first) refl h
@@ -89,7 +96,8 @@ heeded-tick k terminal now past s after c none free =
     ∙ heeded-stays k (sample_on now.shown c) (heard_on c past) (mark_on s.sent c) free
 
 -- so it isn't after an order on it
-pub heeded-order : (k : ℕ) (terminal : TerminalData) (now : Moment) (past : List Moment) (s after : Standing) (c : Channel) (burst : Burst) → suc k ≤ dead_ticks terminal.delay →
+pub heeded-order : (k : ℕ) (terminal : TerminalData) (now : Moment) (past : List Moment) (s after : Standing) (c : Channel) (burst : Burst) →
+    suc k ≤ dead_ticks terminal.delay →
     ended_now k (heard_on c (now ∷ past)) ≡ Some burst → ignored_from k (heard_on c past) (mark_on s.sent c) ≡ false →
     ignored_from k (heard_on c (now ∷ past)) (mark_on (marked_by k terminal now past s after).sent c) ≡ false
 heeded-order k terminal now past s after c burst prompt e free =

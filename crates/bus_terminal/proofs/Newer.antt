@@ -30,6 +30,7 @@ IsNewer k past s (settles end slots rest) =
     (is_left s.duty ≡ true) × (superseded k s ≡ false) × (ignored_from k (heard_on s.channel past) (mark_on s.sent s.channel) ≡ false)
 IsNewer k past s runs_out = ⊤
 
+-- where there is an order
 abbrev pub IsNewerIf : ℕ → List Moment → Standing → Option Handled → Type 0
 IsNewerIf k past s None = ⊤
 IsNewerIf k past s (Some order) = IsNewer k past s order
@@ -42,17 +43,20 @@ one-newer B (Some m) None some older = refl
 one-newer A (Some m) (Some t) some older = grind (arith, nat_tests, older)
 one-newer B (Some m) (Some t) some older = grind (arith, nat_tests, older)
 
+-- a promise is left
 promise-left : (d : Duty) → is_promise d ≡ true → is_left d ≡ true
 promise-left free h = h
 promise-left (owes words acceptance) h = refl
 promise-left (promises command transmitter) h = refl
 
+-- the parts of the test for a burst that is taken for a promise
 promised-parts : (p q r t : Bool) → (p && q && not r && t) ≡ true → (p ≡ true) × (r ≡ false) × (q ≡ true)
 promised-parts true true false t h = (refl, refl, refl)
 promised-parts true true true t h = cc
 promised-parts true false r t h = cc
 promised-parts false q r t h = cc
 
+-- an order by a burst with this last command, or without one
 newer-last : (k : ℕ) (terminal : TerminalData) (past : List Moment) (s : Standing) (c : Channel) (burst : Burst) (last : Option Order) →
     ignored_from k (heard_on c past) (mark_on s.sent c) ≡ false → (mark_on s.addressed c ≡ None → last ≡ None) →
     IsNewerIf k past s (order_by k terminal s c burst last)
@@ -66,14 +70,17 @@ newer-last k terminal past s c burst None heard marked =
     (promise-left s.duty parts.0, parts.1, subst (λ (d : Channel). ignored_from k (heard_on d past) (mark_on s.sent d) ≡ false) on heard))
     (λ _. tt)
 
+-- an order by the burst whose end is known, or none
 newer-ended : (k : ℕ) (terminal : TerminalData) (now : Moment) (past : List Moment) (s : Standing) (c : Channel) (o : Option Burst) →
-    ignored_from k (heard_on c past) (mark_on s.sent c) ≡ false → (mark_on s.addressed c ≡ None → last_order terminal.address (running_slots k (heard_on c past)) ≡ None) → ended_now k (heard_on c (now ∷ past)) ≡ o →
+    ignored_from k (heard_on c past) (mark_on s.sent c) ≡ false → (mark_on s.addressed c ≡ None →
+    last_order terminal.address (running_slots k (heard_on c past)) ≡ None) → ended_now k (heard_on c (now ∷ past)) ≡ o →
     IsNewerIf k past s (order_of k terminal s c o)
 newer-ended k terminal now past s c None heard bare e = tt
 newer-ended k terminal now past s c (Some burst) heard bare e =
     newer-last k terminal past s c burst (last_order terminal.address burst.slots) heard
     (λ none. ap (last_order terminal.address) (end-closes k (sample_on now.shown c) (heard_on c past) burst e).slots ∙ bare none)
 
+-- an order on a channel
 on-newer : (k : ℕ) (terminal : TerminalData) (now : Moment) (past : List Moment) (s : Standing) (c : Channel) → AreMarked k terminal.address past s →
     IsNewerIf k past s (order_on k terminal (now ∷ past) s c)
 on-newer k terminal now past s c marked =
@@ -81,21 +88,26 @@ on-newer k terminal now past s c marked =
     (order_of k terminal s c (ended_now k (heard_on c (now ∷ past)))) (λ _. tt)
     (λ heard. newer-ended k terminal now past s c (ended_now k (heard_on c (now ∷ past))) heard (marked.on c heard) refl)
 
-either-newer : (k : ℕ) (past : List Moment) (s : Standing) (a b : Option Handled) → IsNewerIf k past s a → IsNewerIf k past s b → IsNewerIf k past s (option_or a b)
+-- the first of two orders
+either-newer : (k : ℕ) (past : List Moment) (s : Standing) (a b : Option Handled) → IsNewerIf k past s a → IsNewerIf k past s b →
+    IsNewerIf k past s (option_or a b)
 either-newer k past s None b p q = q
 either-newer k past s (Some order) b p q = p
 
+-- a promise that runs out
 out-newer : (k : ℕ) (past : List Moment) (s : Standing) (b : Bool) → IsNewerIf k past s (if b then Some runs_out else None)
 out-newer k past s true = tt
 out-newer k past s false = tt
 
+-- the order of the newest tick
 pub now-newer : (k : ℕ) (terminal : TerminalData) (now : Moment) (past : List Moment) (s : Standing) (order : Handled) → AreMarked k terminal.address past s →
     order_now k terminal (now ∷ past) s ≡ Some order → IsNewer k past s order
 now-newer k terminal now past s order marked e =
     let all : IsNewerIf k past s (order_now k terminal (now ∷ past) s) =
     either-newer k past s (order_on k terminal (now ∷ past) s A) _ (on-newer k terminal now past s A marked)
     (either-newer k past s (order_on k terminal (now ∷ past) s B) _ (on-newer k terminal now past s B marked)
-    (out-newer k past s (promised_on k s s.channel && (length (now ∷ past) == suc (s.end + relay_wait)) && not (heard_within (heard_on s.channel (now ∷ past)) s.end (length (now ∷ past)))))) in
+    (out-newer k past s (promised_on k s s.channel && (length (now ∷ past) == suc (s.end + relay_wait)) && not (heard_within (heard_on s.channel
+    (now ∷ past)) s.end (length (now ∷ past)))))) in
     subst (IsNewerIf k past s) e all
 
 -- what an order leaves is newer than the commands on the other channel
@@ -113,10 +125,12 @@ left-newest k terminal now past s memory may (settles end slots rest) before mar
     (λ _. (before newer.0).newest newer.1)
 left-newest k terminal now past s memory may runs_out before marks ends newer left = (let no : false ≡ true = left in cc)
 
+-- the same of the order in the newest tick
 pub newest-order : (k : ℕ) (terminal : TerminalData) (now : Moment) (past : List Moment) (s : Standing) (memory : Memory) (may : Bool) (order : Handled) →
     order_now k terminal (now ∷ past) s ≡ Some order → AreMarked k terminal.address past s → (is_left s.duty ≡ true → IsNewest k (length past) s) →
     ((c : Channel) → IfSome (mark_on s.addressed c) (λ m. m < length past)) →
     is_left (after_order s order (done_by k terminal s memory may order)).duty ≡ true →
     IsNewest k (suc (length past)) (marked_by k terminal now past s (after_order s order (done_by k terminal s memory may order)))
 newest-order k terminal now past s memory may order is marked before marks left =
-    left-newest k terminal now past s memory may order before marks (now-ends k terminal now past s order is) (now-newer k terminal now past s order marked is) left
+    left-newest k terminal now past s memory may order before marks (now-ends k terminal now past s order is)
+    (now-newer k terminal now past s order marked is) left

@@ -34,6 +34,7 @@ use Rattle.bus_terminal.proofs.Quiet.{quiet-heard}
 
 -- ---- an ignored channel
 
+-- too few quiet ticks make no end
 few-more : (k counted tick : ℕ) → counted ≤ k → end_or_now k counted tick None ≡ None
 few-more k counted tick few = grind (arith, nat_tests, few)
 
@@ -46,14 +47,17 @@ endless k x past first few none = elim (cases_lt (length past) first) [
 ]
 
 -- so a channel that was ignored is ignored while the burst runs
-ignored-on : (k : ℕ) (x : Sample) (past : List Sample) (sent : Option ℕ) → quiet (x ∷ past) ≤ k → ignored_from k past sent ≡ true → ignored_from k (x ∷ past) sent ≡ true
+ignored-on : (k : ℕ) (x : Sample) (past : List Sample) (sent : Option ℕ) → quiet (x ∷ past) ≤ k → ignored_from k past sent ≡ true →
+    ignored_from k (x ∷ past) sent ≡ true
 ignored-on k x past None few h = h
 ignored-on k x past (Some first) few h =
     let none : end_since k past first ≡ None = grind (arith, h) in rw (endless k x past first few none) refl
 
+-- a channel is ignored in the first tick of an own transmission
 ignored-now : (k : ℕ) (x : Sample) (past : List Sample) → quiet (x ∷ past) ≤ k → ignored_from k (x ∷ past) (Some (length past)) ≡ true
 ignored-now k x past few = rw (endless k x past (length past) few (end_since-early k past (length past) (omega arith))) refl
 
+-- a channel that isn't ignored wasn't before, while the burst runs
 heeded : (k : ℕ) (x : Sample) (past : List Sample) (sent later : Option ℕ) → quiet (x ∷ past) ≤ k → (later ≡ sent) ⊎ (later ≡ Some (length past)) →
     ignored_from k (x ∷ past) later ≡ false → ignored_from k past sent ≡ false
 heeded k x past sent later few (inr now) h =
@@ -65,14 +69,17 @@ heeded k x past sent later few (inl same) h = elim (cases_Bool (ignored_from k p
 
 -- ---- a command on a channel that isn't ignored leaves a mark
 
+-- where a tick leaves no mark, no addressed slot ended in it and there was none
 unmarked-by : (b : Bool) (tick : ℕ) (addressed : Option ℕ) → (if b && true then Some tick else addressed) ≡ None → (b ≡ false) × (addressed ≡ None)
 unmarked-by true tick addressed h = cc
 unmarked-by false tick addressed h = (refl, h)
 
+-- an option without a value
 none-some : (o : Option ℕ) → is_some o ≡ false → o ≡ None
 none-some None h = refl
 none-some (Some n) h = cc
 
+-- a cut that leaves no mark adds no command to the slots of the burst that runs
 by-cut : (k own tick : ℕ) (past : List Sample) (old new : List (Option Word)) (addressed : Option ℕ) (cut : Cut) → Tells k past cut → Collects cut old new →
     (addressed ≡ None → last_order own old ≡ None) → addressed_by own tick (slot_now k past) false addressed ≡ None → last_order own new ≡ None
 by-cut k own tick past old new addressed cuts.Nothing tells same before none =
@@ -84,37 +91,45 @@ by-cut k own tick past old new addressed (cuts.Slot i word) tells more before no
     rw more.1 (push-other own old word other ∙ ap (longer word) (before parts.1))
 by-cut k own tick past old new addressed (cuts.Ended slots rest) tells gone before none = rw gone.1 refl
 
-pub marked-more : (k own tick : ℕ) (x : Sample) (past : List Sample) (sent later addressed : Option ℕ) → k ≤ 39 → length past ≡ tick → IsMarked k own past sent addressed →
+-- one channel with a tick more
+pub marked-more : (k own tick : ℕ) (x : Sample) (past : List Sample) (sent later addressed : Option ℕ) → k ≤ 39 → length past ≡ tick →
+    IsMarked k own past sent addressed →
     (later ≡ sent) ⊎ (later ≡ Some tick) → IsMarked k own (x ∷ past) later (addressed_by own tick (slot_now k (x ∷ past)) (ignored_from k past sent) addressed)
 marked-more k own tick x past sent later addressed small here before sending = λ free none. elim (cases_Bool (runs k (x ∷ past))) [
   | inr off ↦ ap (last_order own) (running-off k (x ∷ past) off)
   | inl on ↦ (
       let heard : ignored_from k past sent ≡ false =
       heeded k x past sent later (runs-parts k (x ∷ past) on).1 (subst (λ (n : ℕ). (later ≡ sent) ⊎ (later ≡ Some n)) (sym here) sending) free in
-      by-cut k own tick (x ∷ past) (running_slots k past) (running_slots k (x ∷ past)) addressed (cut_now k (x ∷ past)) (cut-tells k (x ∷ past)) (cut-collects k x past small)
+      by-cut k own tick (x ∷ past) (running_slots k past) (running_slots k (x ∷ past)) addressed (cut_now k (x ∷ past)) (cut-tells k (x ∷ past))
+      (cut-collects k x past small)
       (λ bare. before heard bare)
       (subst (λ (b : Bool). addressed_by own tick (slot_now k (x ∷ past)) b addressed ≡ None) heard none))
 ]
 
 -- ---- the marks of a tick
 
+-- a mark is the old one or that of the tick
 either : {X : Type 0} (b : Bool) (x y : X) → ((if b then x else y) ≡ y) ⊎ ((if b then x else y) ≡ x)
 either true x y = inr refl
 either false x y = inl refl
 
+-- of the own transmissions
 pub sent-either : (k : ℕ) (terminal : TerminalData) (past : List Moment) (s : Standing) (c : Channel) →
     (sent_on k terminal past s c ≡ mark_on s.sent c) ⊎ (sent_on k terminal past s c ≡ Some (length past))
 sent-either k terminal past s c = either _ (Some (length past)) (mark_on s.sent c)
 
+-- of the addressed slots
 pub addressed-either : (k : ℕ) (terminal : TerminalData) (now : Moment) (past : List Moment) (s : Standing) (c : Channel) →
     (addressed_on k terminal (now ∷ past) s c ≡ mark_on s.addressed c) ⊎ (addressed_on k terminal (now ∷ past) s c ≡ Some (length past))
 addressed-either k terminal now past s c = either _ (Some (length past)) (mark_on s.addressed c)
 
+-- the mark of the addressed slots after a tick, by channel
 addressed-of : (k : ℕ) (terminal : TerminalData) (now : Moment) (past : List Moment) (s after : Standing) (c : Channel) →
     mark_on (marked_by k terminal now past s after).addressed c ≡ addressed_on k terminal (now ∷ past) s c
 addressed-of k terminal now past s after A = refl
 addressed-of k terminal now past s after B = refl
 
+-- and that of the own transmissions
 pub sent-of : (k : ℕ) (terminal : TerminalData) (now : Moment) (past : List Moment) (s after : Standing) (c : Channel) →
     mark_on (marked_by k terminal now past s after).sent c ≡ sent_on k terminal past s c
 sent-of k terminal now past s after A = refl
@@ -125,7 +140,8 @@ pub marked-tick : (k : ℕ) (terminal : TerminalData) (now : Moment) (past : Lis
     AreMarked k terminal.address (now ∷ past) (marked_by k terminal now past s after)
 marked-tick k terminal now past s after small h = record {
   on = λ c. rw (sent-of k terminal now past s after c, addressed-of k terminal now past s after c)
-      (marked-more k terminal.address (length past) (sample_on now.shown c) (heard_on c past) (mark_on s.sent c) (sent_on k terminal past s c) (mark_on s.addressed c)
+      (marked-more k terminal.address (length past) (sample_on now.shown c) (heard_on c past) (mark_on s.sent c) (sent_on k terminal past s c)
+      (mark_on s.addressed c)
       small (length-heard c past) (h.on c) (sent-either k terminal past s c));
 }
 
@@ -139,7 +155,8 @@ marked-quiet k own n memory = record {
 -- ---- the newer of two commands
 
 -- a mark of this tick on the channel leaves it the newer, and one on the other takes back what was left
-newer-stays : (c : Channel) (from tick : ℕ) (this other this' other' : Option ℕ) → (is_from from other ≡ false → is_newer c this other ≡ true) → IfSome other (λ m. m < tick) →
+newer-stays : (c : Channel) (from tick : ℕ) (this other this' other' : Option ℕ) → (is_from from other ≡ false → is_newer c this other ≡ true) →
+    IfSome other (λ m. m < tick) →
     from ≤ tick → (this' ≡ this) ⊎ (this' ≡ Some tick) → (other' ≡ other) ⊎ (other' ≡ Some tick) → is_from from other' ≡ false → is_newer c this' other' ≡ true
 newer-stays c from tick this other this' other' newer before low this_is (inr now) fresh =
     (let late : is_from from (Some tick) ≡ true = grind (arith, nat_tests, low) in let no : true ≡ false = sym late ∙ ap (is_from from) (sym now) ∙ fresh in cc)
@@ -150,6 +167,7 @@ newer-stays c from tick this other this' other' newer before low (inr now) (inl 
   latest c tick None before = refl
   latest c tick (Some m) before = grind (arith, nat_tests, before)
 
+-- what stands after a tick is newer, where it was by the marks before
 pub newest-tick : (k : ℕ) (terminal : TerminalData) (now : Moment) (past : List Moment) (s after : Standing) → after.end + k ≤ length past →
     IfSome (mark_on s.addressed (other_of after.channel)) (λ m. m < length past) →
     (is_from (after.end + k) (mark_on s.addressed (other_of after.channel)) ≡ false →
@@ -165,6 +183,7 @@ newest-tick k terminal now past s after low before newer = record {
 }
 
 -- each mark is of a tick that was heard
-pub mark-before : (k own : ℕ) (ears : Ears) (past : List Moment) (s : Standing) (c : Channel) → EarsStand k own ears past s → IfSome (mark_on s.addressed c) (λ m. m < length past)
+pub mark-before : (k own : ℕ) (ears : Ears) (past : List Moment) (s : Standing) (c : Channel) → EarsStand k own ears past s →
+    IfSome (mark_on s.addressed c) (λ m. m < length past)
 mark-before k own ears past s A st = subst (λ (n : ℕ). IfSome s.addressed.a (λ m. m < n)) (length-heard A past) st.on_a.before
 mark-before k own ears past s B st = subst (λ (n : ℕ). IfSome s.addressed.b (λ m. m < n)) (length-heard B past) st.on_b.before
