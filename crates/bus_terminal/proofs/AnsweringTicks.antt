@@ -37,7 +37,8 @@ acceptance-is false None is = refl
 acceptance-is false (Some end) is = cc
 
 -- the answer begins in the tick in which nothing of it was sent
-begins-is : (k : ℕ) (terminal : TerminalData) (loads : List TimedLoad) (state : Answering) (past : List Moment) (s : Standing) → AnsweringStands k terminal loads state past s →
+begins-is : (k : ℕ) (terminal : TerminalData) (loads : List TimedLoad) (state : Answering) (past : List Moment) (s : Standing) →
+    AnsweringStands k terminal loads state past s →
     begins k terminal past s ≡ (state.sent == 0)
 begins-is k terminal loads state past s st =
     three (is_owed s.duty) (length past == due_after terminal s.end) (given_up k terminal (heard_on s.channel past) s) (ap is_owed st.sends.duty) st.kept
@@ -58,7 +59,8 @@ begins-channel : (b : Bool) (c d : Channel) → begins_on (begins_told b c) d �
 begins-channel true c d = refl
 begins-channel false c d = refl
 
-pub answering-listens : (k : ℕ) (terminal : TerminalData) (loads : List TimedLoad) (state : Answering) (past : List Moment) (s : Standing) → AnsweringStands k terminal loads state past s →
+pub answering-listens : (k : ℕ) (terminal : TerminalData) (loads : List TimedLoad) (state : Answering) (past : List Moment) (s : Standing) →
+    AnsweringStands k terminal loads state past s →
     Listens k terminal (begins_told (state.sent == 0) state.sends.channel) past s
 answering-listens k terminal loads state past s st = λ c.
     begins-channel (state.sent == 0) state.sends.channel c
@@ -80,7 +82,8 @@ same-self b c = both b (same_channel c c) (self c) where
   self A = refl
   self B = refl
 
-pub answer-mark : (k : ℕ) (terminal : TerminalData) (loads : List TimedLoad) (state : Answering) (past : List Moment) (now : Moment) (s : Standing) → AnsweringStands k terminal loads state past s →
+pub answer-mark : (k : ℕ) (terminal : TerminalData) (loads : List TimedLoad) (state : Answering) (past : List Moment) (now : Moment) (s : Standing) →
+    AnsweringStands k terminal loads state past s →
     mark_on (marked_by k terminal now past s s).sent s.channel ≡ Some (due_after terminal s.end)
 answer-mark k terminal loads state past now s st =
     let due : ℕ = due_after terminal s.end in
@@ -96,21 +99,29 @@ not-over : (o : Option ℕ) (b : Bool) → b ≡ is_none o → is_some o ≡ not
 not-over None b e = rw e refl
 not-over (Some end) b e = rw e refl
 
-answering-left : (k : ℕ) (terminal : TerminalData) (loads : List TimedLoad) (common : Common) (past : List Moment) (s : Standing) (sends : Sends) (sent : ℕ) (newer ignored : Bool) →
-    CommonStands k terminal loads common past s → IsSending sends s → newer ≡ superseded k s → heard_within (heard_on s.channel past) s.end (due_after terminal s.end) ≡ false →
-    is_over k terminal (heard_on s.channel past) s ≡ not ignored → due_after terminal s.end + sent ≡ length past → mark_on s.sent s.channel ≡ Some (due_after terminal s.end) →
+answering-left : (k : ℕ) (terminal : TerminalData) (loads : List TimedLoad) (common : Common) (past : List Moment) (s : Standing) (sends : Sends)
+    (sent : ℕ) (newer ignored : Bool) →
+    CommonStands k terminal loads common past s → IsSending sends s → newer ≡ superseded k s →
+    heard_within (heard_on s.channel past) s.end (due_after terminal s.end) ≡ false →
+    is_over k terminal (heard_on s.channel past) s ≡ not ignored → due_after terminal s.end + sent ≡ length past →
+    mark_on s.sent s.channel ≡ Some (due_after terminal s.end) →
     StateStands k terminal loads (answering_on common sends sent newer ignored) past s
 answering-left k terminal loads common past s sends sent true ignored same is newer_is within over at mark =
     record { common = same; rests_now = rests-superseded k terminal past s s.duty (sym newer_is) }
 answering-left k terminal loads common past s sends sent false false same is newer_is within over at mark =
-    record { common = same; rests_now = subst (λ (d : Duty). rests k terminal past s d ≡ true) (sym is.duty) (rw over (up (given_up k terminal (heard_on s.channel past) s))) } where
+    record {
+      common = same;
+      rests_now = subst (λ (d : Duty). rests k terminal past s d ≡ true) (sym is.duty) (rw over (up (given_up k terminal
+          (heard_on s.channel past) s)));
+    } where
       up : (a : Bool) → (a || true) ≡ true
       up true = refl
       up false = refl
 answering-left k terminal loads common past s sends sent false true same is newer_is within over at mark =
     record { common = same; sends = is; kept = kept-when k terminal past s (sym newer_is) within; runs = over; sent = at; marked = λ some. mark }
 
-pub answering-state : (k : ℕ) (terminal : TerminalData) (loads : List TimedLoad) (state : Answering) (common : Common) (past : List Moment) (now : Moment) (s : Standing) (sent : ℕ) (newer ignored : Bool) →
+pub answering-state : (k : ℕ) (terminal : TerminalData) (loads : List TimedLoad) (state : Answering) (common : Common) (past : List Moment)
+    (now : Moment) (s : Standing) (sent : ℕ) (newer ignored : Bool) →
     AnsweringStands k terminal loads state past s → common.plan ≡ state.common.plan → common.memory ≡ state.common.memory →
     EarsStand k terminal.address common.ears (now ∷ past) (marked_by k terminal now past s s) → sent ≡ suc state.sent →
     newer ≡ superseded k (marked_by k terminal now past s s) →
@@ -123,20 +134,25 @@ answering-state k terminal loads state common past now s sent newer ignored st p
     let mark : mark_on left.sent s.channel ≡ Some due = answer-mark k terminal loads state past now s st in
     let ignored_here : ignored ≡ ignored_from k (heard_on s.channel (now ∷ past)) (mark_on left.sent s.channel) =
     ignored_is ∙ ap (λ (c : Channel). ignored_from k (heard_on c (now ∷ past)) (mark_on left.sent c)) (sym st.sends.channel) in
-    let ignored_due : ignored ≡ is_none (end_since k (heard_on s.channel (now ∷ past)) due) = ignored_here ∙ ap (ignored_from k (heard_on s.channel (now ∷ past))) mark in
-    let late : nat_lt (length (heard_on s.channel past)) due ≡ false = le-ltb (length (heard_on s.channel past)) due (omega (arith, length-heard s.channel past, st.sent)) in
+    let ignored_due : ignored ≡ is_none (end_since k (heard_on s.channel (now ∷ past)) due) = ignored_here ∙ ap (ignored_from k (heard_on s.channel
+    (now ∷ past))) mark in
+    let late : nat_lt (length (heard_on s.channel past)) due ≡ false = le-ltb (length (heard_on s.channel past)) due (omega
+    (arith, length-heard s.channel past, st.sent)) in
     let within : heard_within (heard_on s.channel (now ∷ past)) s.end due ≡ false =
     within-same (sample_on now.shown s.channel) (heard_on s.channel past) s.end due (rw late (none (not (is_quiet (sample_on now.shown s.channel))))) old.1 in
-    answering-left k terminal loads common (now ∷ past) left state.sends sent newer ignored (common-kept k terminal loads state.common common past now s st.common plan memory hear)
+    answering-left k terminal loads common (now ∷ past) left state.sends sent newer ignored
+    (common-kept k terminal loads state.common common past now s st.common plan memory hear)
     (record { channel = st.sends.channel; end = st.sends.end; part = st.sends.part; duty = st.sends.duty }) newer_is within
     (not-over (end_since k (heard_on s.channel (now ∷ past)) due) ignored ignored_due) (omega (arith, st.sent, more)) mark where
       none : (b : Bool) → (b && false) ≡ false
       none true = refl
       none false = refl
 
-pub answering-none : (k : ℕ) (terminal : TerminalData) (loads : List TimedLoad) (state : Answering) (common : Common) (past : List Moment) (now : Moment) (s : Standing) (sent : ℕ) (newer ignored accepted : Bool) (end : Option ℕ) →
+pub answering-none : (k : ℕ) (terminal : TerminalData) (loads : List TimedLoad) (state : Answering) (common : Common) (past : List Moment)
+    (now : Moment) (s : Standing) (sent : ℕ) (newer ignored accepted : Bool) (end : Option ℕ) →
     accepted ≡ is_some end →
-    AnsweringStands k terminal loads state past s → order_now k terminal (now ∷ past) s ≡ None → common.plan ≡ state.common.plan → common.memory ≡ state.common.memory →
+    AnsweringStands k terminal loads state past s → order_now k terminal (now ∷ past) s ≡ None → common.plan ≡ state.common.plan →
+    common.memory ≡ state.common.memory →
     EarsStand k terminal.address common.ears (now ∷ past) (marked_by k terminal now past s s) → sent ≡ suc state.sent →
     newer ≡ superseded k (marked_by k terminal now past s s) →
     ignored ≡ ignored_from k (heard_on state.sends.channel (now ∷ past)) (mark_on (marked_by k terminal now past s s).sent state.sends.channel) →

@@ -33,7 +33,8 @@ by-test P false x y f g = g refl
 abbrev pub Recent : ℕ → List Moment → Standing → Type 0
 Recent k past s =
     (s.duty ≡ free)
-    ⊎ ((length past ≡ s.end + suc k) × (quiet (heard_on s.channel past) ≡ suc k) × (ignored_from k (heard_on s.channel past) (mark_on s.sent s.channel) ≡ false))
+    ⊎ ((length past ≡ s.end + suc k) × (quiet (heard_on s.channel past) ≡ suc k) × (ignored_from k (heard_on s.channel past)
+    (mark_on s.sent s.channel) ≡ false))
 
 -- nothing was heard since that end
 pub quiet-since : (k : ℕ) (past : List Moment) (s : Standing) (b : ℕ) → length past ≡ s.end + suc k → quiet (heard_on s.channel past) ≡ suc k →
@@ -67,7 +68,8 @@ owes-stands k terminal loads common n past s sends st here is kept early =
       marked = λ some. absurd (omega (arith, some));
     }))
 
-pub duty-stands : (k : ℕ) (terminal : TerminalData) (loads : List TimedLoad) (common : Common) (n : ℕ) (past : List Moment) (s : Standing) (c : Channel) (end : ℕ) (part : Part) (d : Duty) →
+pub duty-stands : (k : ℕ) (terminal : TerminalData) (loads : List TimedLoad) (common : Common) (n : ℕ) (past : List Moment) (s : Standing)
+    (c : Channel) (end : ℕ) (part : Part) (d : Duty) →
     CommonStands k terminal loads common past s → n ≡ length past → s.channel ≡ c → s.end ≡ end → (is_owed s.duty ≡ true → s.part ≡ part) →
     superseded k s ≡ false → Recent k past s → duty_meant d ≡ s.duty → StateStands k terminal loads (duty_told common n c end part d) past s
 duty-stands k terminal loads common n past s c end part duties.Free st here on at shape fresh recent is =
@@ -92,12 +94,14 @@ duty-stands k terminal loads common n past s c end part (duties.Owes answer) st 
     (kept-when k terminal past s fresh (quiet-since k past s (due_after terminal s.end) now still))
     (omega (arith, now, st.fits.prompt))
 
-pub rests-superseded : (k : ℕ) (terminal : TerminalData) (past : List Moment) (s : Standing) (d : orders.Duty) → superseded k s ≡ true → rests k terminal past s d ≡ true
+pub rests-superseded : (k : ℕ) (terminal : TerminalData) (past : List Moment) (s : Standing) (d : orders.Duty) → superseded k s ≡ true →
+    rests k terminal past s d ≡ true
 rests-superseded k terminal past s free h = refl
 rests-superseded k terminal past s (owes words acceptance) h = rw h refl
 rests-superseded k terminal past s (promises command transmitter) h = h
 
-pub left-stands : (k : ℕ) (terminal : TerminalData) (loads : List TimedLoad) (common : Common) (n : ℕ) (past : List Moment) (s : Standing) (c : Channel) (end : ℕ) (part : Part) (d : Duty) (b : Bool) →
+pub left-stands : (k : ℕ) (terminal : TerminalData) (loads : List TimedLoad) (common : Common) (n : ℕ) (past : List Moment) (s : Standing)
+    (c : Channel) (end : ℕ) (part : Part) (d : Duty) (b : Bool) →
     CommonStands k terminal loads common past s → n ≡ length past → s.channel ≡ c → s.end ≡ end → (is_owed s.duty ≡ true → s.part ≡ part) →
     b ≡ superseded k s → Recent k past s → duty_meant d ≡ s.duty → StateStands k terminal loads (stands_told common b n c end part d) past s
 left-stands k terminal loads common n past s c end part d true st here on at shape is_b recent is =

@@ -31,9 +31,11 @@ pub loads-alike : (address n m : ℕ) (loads : List TimedLoad) (memory : Memory)
     with_loads address n loads memory ≡ with_loads address m loads memory
 loads-alike address n m [] memory f g = refl
 loads-alike address n m (load ∷ loads) memory f g =
-    loads-alike address n m loads _ f.1 g.1 ∙ ap (λ (b : Bool). with_loads address m loads (if b then load_block memory load.sub load.words else memory)) (due-alike address n m load f.0 g.0)
+    loads-alike address n m loads _ f.1 g.1 ∙ ap (λ (b : Bool). with_loads address m loads
+    (if b then load_block memory load.sub load.words else memory)) (due-alike address n m load f.0 g.0)
 
-pub woken-stands : (k : ℕ) (terminal : TerminalData) (loads : List TimedLoad) (state : TerminalState) (common : Common) (past : List Moment) (s : Standing) (kept : Memory) (n : ℕ) →
+pub woken-stands : (k : ℕ) (terminal : TerminalData) (loads : List TimedLoad) (state : TerminalState) (common : Common) (past : List Moment)
+    (s : Standing) (kept : Memory) (n : ℕ) →
     CommonStands k terminal loads common past s → RestsFrom k state common → AreMade terminal.address n loads → common.memory ≡ kept →
     StateStands k terminal loads state (quiet_moments n) (at_rest kept)
 woken-stands k terminal loads (states.Listening state) common past s kept n st rested made is =

@@ -126,7 +126,8 @@ AcceptedIs (events.Took delivery) accepted = accepted ≡ None
 AcceptedIs events.Accepted accepted = is_some accepted ≡ true
 
 -- the state after a tick, and what is told of it, where control is accepted with this end
-pub record NextStands (k : ℕ) (terminal : TerminalData) (loads : List TimedLoad) (next : TerminalNext) (past : List Moment) (now : Moment) (s : Standing) (end : Option ℕ) : Type 0 where
+pub record NextStands (k : ℕ) (terminal : TerminalData) (loads : List TimedLoad) (next : TerminalNext) (past : List Moment) (now : Moment)
+    (s : Standing) (end : Option ℕ) : Type 0 where
   pub state : StateStands k terminal loads next.state (now ∷ past) (after_tick k terminal loads now past s)
   pub taken : TakenIs next.event (length past) (channel_of s (order_now k terminal (now ∷ past) s))
       (taken_by k terminal loads (length past) now.may s (order_now k terminal (now ∷ past) s))
