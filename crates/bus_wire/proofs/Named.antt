@@ -33,9 +33,11 @@ own-hit-at attempt part faults i fault within here e =
     at_drop_more (λ rest. hits_on rest attempt part) faults i fault within ∙ (rw (← here) (own-hit attempt part fault (drop (i + 1) faults) e))
 
 -- a last fault that isn't named is left out
-pub other-hit-last : (attempt : ℕ) (part : Part) (faults : List Fault) (i : ℕ) (fault : Fault) → i < length faults → fault ≡ get_or faults i fault →
-    names attempt part fault ≡ false → hits_on (take (i + 1) faults) attempt part ≡ hits_on (take i faults) attempt part
-other-hit-last attempt part faults i fault within here e =
-    ap (λ front. hits_on front attempt part) (take_more faults i fault within)
-    ∙ (rw (← here) (filter_map-append (hit_on attempt part) (take i faults) (fault ∷ [])
-    ∙ (ap (λ last. hits_on (take i faults) attempt part ++ last) (other-hit attempt part fault [] e) ∙ append-nil (hits_on (take i faults) attempt part))))
+pub other-hit-last : (attempt : ℕ) (part : Part) (faults : List Fault) (n : ℕ) (fault : Fault) → 0 < n → n ≤ length faults →
+    fault ≡ get_or faults (n - 1) fault → names attempt part fault ≡ false → hits_on (take (n - 1) faults) attempt part ≡ hits_on (take n faults) attempt part
+other-hit-last attempt part faults n fault some within here e =
+    let one : n - 1 + 1 ≡ n = omega arith in
+    let ends : take n faults ≡ take (n - 1) faults ++ fault ∷ [] =
+    ap (λ m. take m faults) (sym one) ∙ (take_more faults (n - 1) fault (omega arith) ∙ ap (λ last. take (n - 1) faults ++ last ∷ []) (sym here)) in
+    rw (ends, filter_map-append (hit_on attempt part) (take (n - 1) faults) (fault ∷ []), other-hit attempt part fault [] e)
+    (sym (append-nil (hits_on (take (n - 1) faults) attempt part)))

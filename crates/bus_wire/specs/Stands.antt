@@ -1,5 +1,5 @@
 -- For which drives a transmitter stands. These records need no belief: they say nothing but what each tick keeps.
-use Rattle.std.specs.Prelude.{◌≡◌, ℕ, ◌+◌, ◌≤◌, Bool, true, false, if◌then◌else◌, List, length, slice_range, Option, Some, None, option_map, IsSome, IfSome}
+use Rattle.std.specs.Prelude.{◌≡◌, ℕ, ◌+◌, ◌≤◌, Bool, true, false, if◌then◌else◌, List, length, slice_range, Option, Some, None, IsSome}
 use Rattle.bus_base.specs.declared.samples.Channel.{Channel}
 use Rattle.bus_base.specs.declared.samples.Drive.{Drive}
 use Rattle.bus_formats.specs.declared.fault.Fault.{Fault}
@@ -60,4 +60,5 @@ pub record Keeps (faults : List Fault) (station : ℕ) (c : Channel) (t : Transm
   pub found_is : found ≡ kept_of station c t t.drove
   pub first : t.first ≤ length driven
   pub last : t.last ≡ last_since station c driven t.first
+  pub never : t.drove ≡ None → t.last ≡ None
   pub strikes : IsSome t.drove → AreStrikes faults t.strikes

@@ -104,10 +104,14 @@ impl Wire {
                 part,
                 last,
             };
-            self.commands = match channel {
-                Channel::A => self.a.follow(station, &self.faults, self.commands, driven),
-                Channel::B => self.b.follow(station, &self.faults, self.commands, driven),
-            };
+            match channel {
+                Channel::A => {
+                    self.commands = self.a.follow(station, &self.faults, self.commands, driven);
+                }
+                Channel::B => {
+                    self.commands = self.b.follow(station, &self.faults, self.commands, driven);
+                }
+            }
         }
     }
 
