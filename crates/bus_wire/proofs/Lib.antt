@@ -7,3 +7,4 @@ pub mod ShownLaws
 pub mod SideLaws
 pub mod OnLaws
 pub mod StationLaws
+pub mod WireLaws

@@ -1,5 +1,5 @@
 -- What a channel shows of the stations so far, and with those to come.
-use Rattle.std.proofs.Common.{◌≡◌, ℕ, zero, suc, ◌+◌, ◌-◌, ◌<◌, ◌≤◌, Bool, true, false, ◌==◌, List, [], ◌∷◌, length, get_or, drop, Option, Some, None, refl, sym, ap, ◌∙◌, arith, if◌then◌else◌}
+use Rattle.std.proofs.Common.{◌≡◌, ℕ, zero, suc, ◌+◌, ◌-◌, ◌<◌, ◌≤◌, Bool, true, false, ◌==◌, List, [], ◌∷◌, length, get_or, drop, Option, Some, None, refl, sym, ap, ◌∙◌, arith, if◌then◌else◌, add-one}
 use Rattle.std.specs.Prelude.{find, slice_get}
 use Rattle.std.proofs.lemmas.Bool.Decides.{nat_tests}
 use Rattle.std.proofs.lemmas.List.{at_drop_more, at_drop_all}
@@ -10,7 +10,7 @@ use Rattle.bus_base.specs.declared.samples.Sample.{Sample}
 use Rattle.bus_base.specs.declared.samples.Sample.TheVariants.{Quiet}
 use Rattle.bus_base.specs.declared.samples.Drive.{Drive}
 use Rattle.bus_formats.specs.declared.fault.Fault.{Fault}
-use Rattle.bus_model.specs.Transmissions.{is_of, transmissions, station_drive, drive_or}
+use Rattle.bus_model.specs.Transmissions.{Transmission, is_of, transmissions, station_drive, drive_or}
 use Rattle.bus_model.specs.Wire.{add_sample, shown_by, samples_by, samples_on}
 use Rattle.bus_wire.specs.Newest.{newest, by_any}
 use Rattle.bus_wire.specs.Steps.{shown_of}
@@ -70,9 +70,14 @@ pub joins-station : (faults : List Fault) (c : Channel) (now : List Drive) (befo
     Joins (with_shown on (shown_of faults (length before) other c drive t)) (samples_from faults c now before (station + 1) (drop (station + 1) now)) (samples_on faults c (now ∷ before))
 joins-station faults c now before side other station t drive on stands beside here within is j =
     let drives : station_drive station now ≡ drive = ap drive_or (slice_get-get_or now station drive within) ∙ sym is in
-    let shown : shown_of faults (length before) other c drive t ≡ shown_by faults (now ∷ before) (length before) c (find (is_of station c) (transmissions faults (now ∷ before))) drive =
-    shown-is faults station c t now before (find (is_of station c) (transmissions faults (now ∷ before))) other drive drives beside (stands.each station t here) in
+    let found : Option Transmission = find (is_of station c) (transmissions faults (now ∷ before)) in
+    let later : List Sample = samples_from faults c now before (suc station) (drop (station + 1) now) in
+    let shown : shown_of faults (length before) other c drive t ≡ shown_by faults (now ∷ before) (length before) c found drive =
+    shown-is faults station c t now before found other drive drives beside (stands.each station t here) in
     let step : samples_from faults c now before station (drop station now)
         ≡ add_sample (shown_of faults (length before) other c drive t) (samples_from faults c now before (station + 1) (drop (station + 1) now)) =
-    at_drop_more (samples_from faults c now before station) now station drive within ∙ ? in
+    at_drop_more (samples_from faults c now before station) now station drive within
+    ∙ (ap (λ d. add_sample (shown_by faults (now ∷ before) (length before) c found d) later) (sym is)
+    ∙ (ap (λ x. add_sample x later) (sym shown)
+    ∙ ap (λ n. add_sample (shown_of faults (length before) other c drive t) (samples_from faults c now before n (drop (station + 1) now))) (sym (add-one station)))) in
     joins-more on (shown_of faults (length before) other c drive t) (samples_from faults c now before (station + 1) (drop (station + 1) now)) (samples_on faults c (now ∷ before)) (rw (← step) j)
