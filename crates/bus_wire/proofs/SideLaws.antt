@@ -1,14 +1,18 @@
 -- The transmitters of one channel: a new channel, and one in which a station drives.
-use Rattle.std.proofs.Common.{◌≡◌, ℕ, zero, suc, ◌+◌, ◌-◌, ◌<◌, ◌≤◌, List, [], ◌∷◌, length, get_or, replicate, Option, Some, None, refl, sym, ap, ◌∙◌, subst, arith}
-use Rattle.std.specs.Prelude.{slice_get, slice_set, IsSome}
+use Rattle.std.proofs.Common.{◌≡◌, true, ℕ, zero, suc, ◌+◌, ◌-◌, ◌<◌, ◌≤◌, List, [], ◌∷◌, length, get_or, replicate, Option, Some, None, refl, sym, ap, ◌∙◌, subst, arith}
+use Rattle.std.specs.Prelude.{find, slice_get, slice_set, IsSome}
 use Rattle.std.proofs.lemmas.Option.{slice_get-get_or, same_Some}
 use Rattle.bus_formats.specs.declared.fault.Fault.{Fault}
+use Rattle.bus_base.specs.declared.samples.Channel.{Channel}
+use Rattle.bus_base.specs.declared.samples.Drive.{Drive}
+use Rattle.bus_model.specs.Transmissions.{is_of, drives_on, drive_or, transmissions}
 use Rattle.bus_wire.specs.Steps.{goes_on}
-use Rattle.bus_wire.specs.Stands.{AreStrikes, Unsent, Follows}
-use Rattle.bus_wire.specs.Sides.{SideFits, SideFollows, IsUnsent}
+use Rattle.bus_wire.specs.Stands.{AreStrikes, Unsent, Follows, Keeps}
+use Rattle.bus_wire.specs.Sides.{SideFits, SideFollows, SideStands, IsUnsent}
 use Rattle.bus_wire.specs.declared.transmitter.Driven.{Driven}
 use Rattle.bus_wire.specs.declared.transmitter.Transmitter.{Transmitter}
 use Rattle.bus_wire.specs.declared.side.Side.{Side}
+use Rattle.bus_wire.proofs.ShownLaws.{strikes-now}
 
 one-of-many : {A : Type 0} (n i : ℕ) (x y : A) → slice_get (replicate n x) i ≡ Some y → x ≡ y
 one-of-many zero i x y e = (let no : None ≡ Some y = e in cc)
@@ -36,3 +40,16 @@ side-follows faults station commands driven old d next after within all follows 
   follows = follows;
   is = refl;
 }
+
+-- what is known of the transmitter at a place
+pub each-at : (faults : List Fault) (c : Channel) (side : Side) (driven : List (List Drive)) (i : ℕ) (d : Transmitter) → i < 32 → SideStands faults c side driven →
+    Keeps faults i c (get_or side.transmitters i d) driven (find (is_of i c) (transmissions faults driven))
+each-at faults c side driven i d within s =
+    s.each i (get_or side.transmitters i d) (slice_get-get_or side.transmitters i d (omega (arith, s.all)))
+
+-- the transmitter of a station that drives the channel now is struck by these faults
+pub strikes-at : (faults : List Fault) (c : Channel) (side : Side) (now : List Drive) (before : List (List Drive)) (i : ℕ) (d : Transmitter) (silent : Drive) → i < 32 → i < length now →
+    SideStands faults c side (now ∷ before) → drives_on c (get_or now i silent) ≡ true → AreStrikes faults (get_or side.transmitters i d).strikes
+strikes-at faults c side now before i d silent within here s e =
+    strikes-now faults i c (get_or side.transmitters i d) now before (find (is_of i c) (transmissions faults (now ∷ before)))
+    (ap (λ o. drives_on c (drive_or o)) (slice_get-get_or now i silent here) ∙ e) (each-at faults c side (now ∷ before) i d within s)

@@ -131,7 +131,7 @@ side-drives faults driven drives now begun c side new sample part last commands 
     let within : now < length side.transmitters = slice_get_within side.transmitters now f.t f.here in
     let own : Keeps faults now c f.next (so_far now (suc now) drives driven) (find (is_of now c) more) = rw (so-far-before now (suc now) drives driven (omega arith)) both.0 in
     let each : (i : ℕ) (t : Transmitter) → slice_get (slice_set side.transmitters now f.next) i ≡ Some t →
-        Keeps faults i c t (so_far i (suc now) drives driven) (find (is_of i c) more) = λ i t at. elim (cases_eq i now) [
+    Keeps faults i c t (so_far i (suc now) drives driven) (find (is_of i c) more) = λ i t at. elim (cases_eq i now) [
       | inl same ↦ (let is : f.next ≡ t = same_Some f.next t (sym (set-same side.transmitters now f.next within) ∙ subst (λ j. slice_get (slice_set side.transmitters now f.next) j ≡ Some t) same at) in
           subst (λ j. Keeps faults j c t (so_far j (suc now) drives driven) (find (is_of j c) more)) (sym same)
           (subst (λ (x : Transmitter). Keeps faults now c x (so_far now (suc now) drives driven) (find (is_of now c) more)) is own))

@@ -118,6 +118,7 @@ pub keeps-driving : (faults : List Fault) (station : ℕ) (c : Channel) (t next 
     × (after ≡ count_by is_command (if goes then ts else new_transmission station c part (length driven) ts ∷ ts))
 keeps-driving faults station c t next now driven ts sample part last commands after true d counted g follows k =
     (keeps-going faults station c t next now driven (find (is_of station c) ts) sample part last d g follows.0 k, follows.1 ∙ counted)
-keeps-driving faults station c t next now driven ts sample part last commands after false d counted g b k =
-    (keeps-beginning faults station c next now driven ts sample part last commands after d counted b,
-    b.counted ∙ (ap (λ n. n + (if sends_command part then 1 else 0)) counted ∙ counted-new station c part (length driven) ts))
+keeps-driving faults station c t next now driven ts sample part last commands after false d counted g b k = (
+  keeps-beginning faults station c next now driven ts sample part last commands after d counted b,
+  b.counted ∙ (ap (λ n. n + (if sends_command part then 1 else 0)) counted ∙ counted-new station c part (length driven) ts),
+)

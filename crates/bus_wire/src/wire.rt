@@ -92,24 +92,26 @@ impl Wire {
         ensures { (faults : List Fault) (driven : List (List Drive)) (drives : List Drive) → FollowsTo faults driven drives station self.old →
             slice_get drives station ≡ Some drive → FollowsTo faults driven drives (station + 1) self.new }
     {
-        if let Drive::On {
-            channel,
-            part,
-            last,
-            ..
-        } = drive
-        {
-            let driven = Driven {
-                tick: self.next,
+        match drive {
+            Drive::Silent => {}
+            Drive::On {
+                channel,
                 part,
                 last,
-            };
-            match channel {
-                Channel::A => {
-                    self.commands = self.a.follow(station, &self.faults, self.commands, driven);
-                }
-                Channel::B => {
-                    self.commands = self.b.follow(station, &self.faults, self.commands, driven);
+                ..
+            } => {
+                let driven = Driven {
+                    tick: self.next,
+                    part,
+                    last,
+                };
+                match channel {
+                    Channel::A => {
+                        self.commands = self.a.follow(station, &self.faults, self.commands, driven);
+                    }
+                    Channel::B => {
+                        self.commands = self.b.follow(station, &self.faults, self.commands, driven);
+                    }
                 }
             }
         }
