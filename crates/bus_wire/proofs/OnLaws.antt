@@ -1,6 +1,7 @@
 -- What a channel shows of the stations so far, and with those to come.
-use Rattle.std.proofs.Common.{◌≡◌, ℕ, zero, suc, ◌+◌, ◌-◌, ◌<◌, ◌≤◌, Bool, true, false, ◌==◌, List, [], ◌∷◌, length, get_or, drop, Option, Some, None, refl, sym, ap, ◌∙◌, arith, if◌then◌else◌, add-one}
-use Rattle.std.specs.Prelude.{find, slice_get}
+use Rattle.std.proofs.Common.{◌≡◌, ℕ, suc, ◌+◌, ◌<◌, ◌≤◌, ◌==◌, List, [], ◌∷◌, length}
+use Rattle.std.proofs.Common.{get_or, drop, Option, Some, None, refl, sym, ap, ◌∙◌, arith, if◌then◌else◌, add-one}
+use Rattle.std.specs.Prelude.{find}
 use Rattle.std.proofs.lemmas.Bool.Decides.{nat_tests}
 use Rattle.std.proofs.lemmas.List.{at_drop_more, at_drop_all}
 use Rattle.std.proofs.lemmas.Option.{slice_get-get_or}
@@ -70,8 +71,10 @@ unfolding samples_on
 joins-start faults c now before = joins-none (samples_from faults c now before 0 now)
 
 -- one station more is shown
-pub joins-station : (faults : List Fault) (c : Channel) (now : List Drive) (before : List (List Drive)) (side : Side) (other : Option ℕ) (station : ℕ) (d : Transmitter) (silent : Drive)
-    (tick : ℕ) (on : OnChannel) → length now ≤ 32 → SideStands faults c side (now ∷ before) → tick ≡ length before → other ≡ newest (by_any (other_of c)) (now ∷ before) → station < length now →
+pub joins-station : (faults : List Fault) (c : Channel) (now : List Drive) (before : List (List Drive)) (side : Side) (other : Option ℕ) (station : ℕ)
+    (d : Transmitter) (silent : Drive)
+    (tick : ℕ) (on : OnChannel) → length now ≤ 32 → SideStands faults c side (now ∷ before) → tick ≡ length before →
+    other ≡ newest (by_any (other_of c)) (now ∷ before) → station < length now →
     Joins on (samples_from faults c now before station (drop station now)) (samples_on faults c (now ∷ before)) →
     Joins (with_shown on (shown_of faults tick other c (get_or now station silent) (get_or side.transmitters station d)))
     (samples_from faults c now before (station + 1) (drop (station + 1) now)) (samples_on faults c (now ∷ before))
@@ -87,7 +90,8 @@ joins-station faults c now before side other station d silent tick on few stands
     ≡ add_sample (shown_of faults (length before) other c drive t) (samples_from faults c now before (station + 1) (drop (station + 1) now)) =
     at_drop_more (samples_from faults c now before station) now station silent within
     ∙ (ap (λ x. add_sample x later) (sym shown)
-    ∙ ap (λ n. add_sample (shown_of faults (length before) other c drive t) (samples_from faults c now before n (drop (station + 1) now))) (sym (add-one station))) in
+    ∙ ap (λ n. add_sample (shown_of faults (length before) other c drive t) (samples_from faults c now before n (drop (station + 1) now))) (sym
+    (add-one station))) in
     rw at (joins-more on (shown_of faults (length before) other c drive t) (samples_from faults c now before (station + 1) (drop (station + 1) now))
     (samples_on faults c (now ∷ before)) (rw (← step) j))
 

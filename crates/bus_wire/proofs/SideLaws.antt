@@ -1,5 +1,5 @@
 -- The transmitters of one channel: a new channel, and one in which a station drives.
-use Rattle.std.proofs.Common.{◌≡◌, true, ℕ, zero, suc, ◌+◌, ◌-◌, ◌<◌, ◌≤◌, List, [], ◌∷◌, length, get_or, replicate, Option, Some, None, refl, sym, ap, ◌∙◌, subst, arith}
+use Rattle.std.proofs.Common.{◌≡◌, true, ℕ, zero, suc, ◌<◌, List, ◌∷◌, length, get_or, replicate, Some, None, refl, ap, ◌∙◌, subst, arith}
 use Rattle.std.specs.Prelude.{find, slice_get, slice_set, IsSome}
 use Rattle.std.proofs.lemmas.Option.{slice_get-get_or, same_Some}
 use Rattle.bus_formats.specs.declared.fault.Fault.{Fault}
@@ -30,7 +30,8 @@ fits-at faults side i d within fits =
     fits.strikes i (get_or side.transmitters i d) (slice_get-get_or side.transmitters i d (omega (arith, fits.all)))
 
 -- the transmitter at a place is followed
-pub side-follows : (faults : List Fault) (station commands : ℕ) (driven : Driven) (old : Side) (d next : Transmitter) (after : ℕ) → station < 32 → length old.transmitters ≡ 32 →
+pub side-follows : (faults : List Fault) (station commands : ℕ) (driven : Driven) (old : Side) (d next : Transmitter) (after : ℕ) → station < 32 →
+    length old.transmitters ≡ 32 →
     Follows faults commands driven (goes_on faults driven.tick (get_or old.transmitters station d)) (get_or old.transmitters station d) next after →
     SideFollows faults station commands driven old (record { transmitters = slice_set old.transmitters station next; driven = Some driven.tick }) after
 side-follows faults station commands driven old d next after within all follows = record {
@@ -42,13 +43,15 @@ side-follows faults station commands driven old d next after within all follows 
 }
 
 -- what is known of the transmitter at a place
-pub each-at : (faults : List Fault) (c : Channel) (side : Side) (driven : List (List Drive)) (i : ℕ) (d : Transmitter) → i < 32 → SideStands faults c side driven →
+pub each-at : (faults : List Fault) (c : Channel) (side : Side) (driven : List (List Drive)) (i : ℕ) (d : Transmitter) → i < 32 →
+    SideStands faults c side driven →
     Keeps faults i c (get_or side.transmitters i d) driven (find (is_of i c) (transmissions faults driven))
 each-at faults c side driven i d within s =
     s.each i (get_or side.transmitters i d) (slice_get-get_or side.transmitters i d (omega (arith, s.all)))
 
 -- the transmitter of a station that drives the channel now is struck by these faults
-pub strikes-at : (faults : List Fault) (c : Channel) (side : Side) (now : List Drive) (before : List (List Drive)) (i : ℕ) (d : Transmitter) (silent : Drive) → i < 32 → i < length now →
+pub strikes-at : (faults : List Fault) (c : Channel) (side : Side) (now : List Drive) (before : List (List Drive)) (i : ℕ) (d : Transmitter)
+    (silent : Drive) → i < 32 → i < length now →
     SideStands faults c side (now ∷ before) → drives_on c (get_or now i silent) ≡ true → AreStrikes faults (get_or side.transmitters i d).strikes
 strikes-at faults c side now before i d silent within here s e =
     strikes-now faults i c (get_or side.transmitters i d) now before (find (is_of i c) (transmissions faults (now ∷ before)))

@@ -1,5 +1,6 @@
 -- The wire before the stations of a tick, after each of them, and after all.
-use Rattle.std.proofs.Common.{◌≡◌, ℕ, zero, suc, ◌+◌, ◌-◌, ◌*◌, ◌<◌, ◌≤◌, Bool, true, false, nat_lt, List, [], ◌∷◌, length, drop, take, Option, Some, None, refl, sym, ap, ◌∙◌, subst, inl, inr, ◌⊎◌, arith, add-one}
+use Rattle.std.proofs.Common.{◌≡◌, ℕ, zero, suc, ◌+◌, ◌≤◌, Bool, false, List, [], ◌∷◌, length}
+use Rattle.std.proofs.Common.{drop, Option, Some, None, refl, sym, ap, ◌∙◌, subst, inl, inr, arith, add-one}
 use Rattle.std.specs.Prelude.{find, count_by, slice_get}
 use Rattle.std.proofs.lemmas.Bool.{cases_lt}
 use Rattle.std.proofs.lemmas.List.{drop_all, take_all}
@@ -11,17 +12,17 @@ use Rattle.bus_base.specs.declared.samples.Sample.{Sample}
 use Rattle.bus_base.specs.declared.samples.Drive.{Drive}
 use Rattle.bus_base.specs.declared.samples.Drive.TheVariants.{Silent, On}
 use Rattle.bus_formats.specs.declared.fault.Fault.{Fault}
-use Rattle.bus_model.specs.Transmissions.{Transmission, is_of, is_command, drives_on, station_drive, drive_or, newest_drives, with_drive, with_drives, transmissions}
+use Rattle.bus_model.specs.Transmissions.{Transmission, is_of, is_command, drives_on, station_drive}
+use Rattle.bus_model.specs.Transmissions.{drive_or, newest_drives, with_drive, with_drives, transmissions}
 use Rattle.bus_wire.specs.Newest.{by_any, tick_or, newest}
 use Rattle.bus_wire.specs.Steps.{goes_on}
-use Rattle.bus_wire.specs.Stands.{Keeps, Unsent}
+use Rattle.bus_wire.specs.Stands.{Keeps}
 use Rattle.bus_wire.specs.Sides.{SideFits, SideFollows, SideStands, IsUnsent}
 use Rattle.bus_wire.specs.WireStands.{Stands, side_of, so_far, SideFollowsTo, FollowsTo}
-use Rattle.bus_wire.specs.declared.transmitter.Driven.{Driven}
 use Rattle.bus_wire.specs.declared.transmitter.Transmitter.{Transmitter}
 use Rattle.bus_wire.specs.declared.side.Side.{Side}
 use Rattle.bus_wire.specs.declared.wire.Wire.{Wire}
-use Rattle.bus_wire.proofs.TransmitterLaws.{keeps-first, keeps-quiet, with-drive-is}
+use Rattle.bus_wire.proofs.TransmitterLaws.{keeps-first, keeps-quiet}
 use Rattle.bus_wire.proofs.StationLaws.{so-far-before, so-far-from, begun_by, begun-other-channel, Driving, side-passes, side-drives}
 
 -- ---- a new wire
@@ -52,7 +53,8 @@ stands-new wire next commands a b = record {
 -- ---- the stations of a tick
 
 -- before the first of them
-pub follows-start : (faults : List Fault) (driven : List (List Drive)) (drives : List Drive) (wire : Wire) → Stands faults wire driven → FollowsTo faults driven drives 0 wire
+pub follows-start : (faults : List Fault) (driven : List (List Drive)) (drives : List Drive) (wire : Wire) → Stands faults wire driven →
+    FollowsTo faults driven drives 0 wire
 unfolding transmissions
 follows-start faults driven drives wire s = record {
   faults_are = s.faults_are;
@@ -74,7 +76,8 @@ drop-next (y ∷ ys) zero x e = ap (λ z. z ∷ ys) (same_Some y x e)
 drop-next (y ∷ ys) (suc i) x e = drop-next ys i x e
 
 -- the transmissions of the stations to come
-later-next : (faults : List Fault) (driven : List (List Drive)) (drives : List Drive) (now : ℕ) (drive : Drive) (begun all : List Transmission) → slice_get drives now ≡ Some drive →
+later-next : (faults : List Fault) (driven : List (List Drive)) (drives : List Drive) (now : ℕ) (drive : Drive) (begun all : List Transmission) →
+    slice_get drives now ≡ Some drive →
     with_drives faults now (length driven) (newest_drives driven) (drop now drives) begun ≡ all →
     with_drives faults (suc now) (length driven) (newest_drives driven) (drop (suc now) drives)
     (with_drive faults now (length driven) (station_drive now (newest_drives driven)) begun drive) ≡ all
@@ -124,14 +127,17 @@ sides-next faults driven drives now begun wire B sample part last goes side afte
 sides-next faults driven drives now begun wire B sample part last goes side after here d sides B = d.side_follows
 
 -- after a station that drives a channel
-drives-next : (faults : List Fault) (driven : List (List Drive)) (drives : List Drive) (now : ℕ) (wire : Wire) (c : Channel) (sample : Sample) (part : Part) (last : Bool)
+drives-next : (faults : List Fault) (driven : List (List Drive)) (drives : List Drive) (now : ℕ) (wire : Wire) (c : Channel) (sample : Sample) (part : Part)
+    (last : Bool)
     (side : Side) (after : ℕ) → slice_get drives now ≡ Some (On c sample part last) →
     SideFollows wire.faults.items now wire.commands (record { tick = wire.next; part = part; last = last }) (side_of wire c) side after →
     FollowsTo faults driven drives now wire → FollowsTo faults driven drives (suc now) (with_side wire c after side)
 drives-next faults driven drives now wire c sample part last side after here followed f =
     let follows : SideFollows faults now wire.commands (record { tick = length driven; part = part; last = last }) (side_of wire c) side after =
-    subst (λ (fs : List Fault). SideFollows fs now wire.commands (record { tick = length driven; part = part; last = last }) (side_of wire c) side after) f.faults_are
-    (subst (λ (n : ℕ). SideFollows wire.faults.items now wire.commands (record { tick = n; part = part; last = last }) (side_of wire c) side after) f.next_is followed) in
+    subst (λ (fs : List Fault). SideFollows fs now wire.commands (record { tick = length driven; part = part; last = last })
+    (side_of wire c) side after) f.faults_are
+    (subst (λ (n : ℕ). SideFollows wire.faults.items now wire.commands (record { tick = n; part = part; last = last })
+    (side_of wire c) side after) f.next_is followed) in
     let goes : Bool = goes_on faults (length driven) follows.t in
     let d : Driving faults driven drives now f.begun c sample part last goes wire.commands after side =
     side-drives faults driven drives now f.begun c (side_of wire c) side sample part last wire.commands after here f.commands (f.sides c) follows in
@@ -147,7 +153,8 @@ drives-next faults driven drives now wire c sample part last side after here fol
       sides = sides-next faults driven drives now f.begun wire c sample part last goes side after here d f.sides;
     }
 
-pub follows-drives : (faults : List Fault) (driven : List (List Drive)) (drives : List Drive) (now : ℕ) (wire : Wire) (c : Channel) (sample : Sample) (part : Part) (last : Bool)
+pub follows-drives : (faults : List Fault) (driven : List (List Drive)) (drives : List Drive) (now : ℕ) (wire : Wire) (c : Channel) (sample : Sample)
+    (part : Part) (last : Bool)
     (side : Side) (after : ℕ) → slice_get drives now ≡ Some (On c sample part last) →
     SideFollows wire.faults.items now wire.commands (record { tick = wire.next; part = part; last = last }) (side_of wire c) side after →
     FollowsTo faults driven drives now wire → FollowsTo faults driven drives (now + 1) (with_side wire c after side)
@@ -175,7 +182,8 @@ each-stands faults driven drives found c i t k = elim (cases_lt i (length drives
 ]
 
 side-stands : (faults : List Fault) (driven : List (List Drive)) (drives : List Drive) (begun : List Transmission) (c : Channel) (side : Side) →
-    begun ≡ transmissions faults (drives ∷ driven) → SideFollowsTo faults driven drives (length drives) begun c side → SideStands faults c side (drives ∷ driven)
+    begun ≡ transmissions faults (drives ∷ driven) → SideFollowsTo faults driven drives (length drives) begun c side →
+    SideStands faults c side (drives ∷ driven)
 unfolding newest
 side-stands faults driven drives begun c side e s = record {
   all = s.all;

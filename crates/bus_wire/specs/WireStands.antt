@@ -29,7 +29,8 @@ pub record Stands (faults : List Fault) (wire : Wire) (driven : List (List Drive
 abbrev pub so_far : ℕ → ℕ → List Drive → List (List Drive) → List (List Drive)
 so_far station now drives driven = if nat_lt station now then drives ∷ driven else driven
 
-pub record SideFollowsTo (faults : List Fault) (driven : List (List Drive)) (drives : List Drive) (now : ℕ) (begun : List Transmission) (c : Channel) (side : Side) : Type 0 where
+pub record SideFollowsTo (faults : List Fault) (driven : List (List Drive)) (drives : List Drive) (now : ℕ) (begun : List Transmission) (c : Channel)
+    (side : Side) : Type 0 where
   pub all : length side.transmitters ≡ 32
   pub each : (i : ℕ) (t : Transmitter) → slice_get side.transmitters i ≡ Some t →
       Keeps faults i c t (so_far i now drives driven) (find (is_of i c) begun)

@@ -81,7 +81,9 @@ impl Transmitter {
         match self.drove {
             Some(drove) => {
                 tick.saturating_sub(drove) == 1
-                    && !self.strikes.end(faults, tick.saturating_sub(self.first))
+                    && !self
+                        .strikes
+                        .is_cut_over(faults, tick.saturating_sub(self.first))
             }
             None => false,
         }

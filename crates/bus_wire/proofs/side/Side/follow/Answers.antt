@@ -6,4 +6,5 @@ follow-requires-clause-strikes c = fits-at c.args.faults.now c.args.self.now c.a
 
 pub returns : goal.returns
 returns c =
-    side-follows c.args.faults.now c.args.station c.args.commands c.args.driven c.args.self.now _ _ c.follow.result c.requires.station c.requires.fits.all c.follow.ensures
+    side-follows c.args.faults.now c.args.station c.args.commands c.args.driven c.args.self.now _ _ c.follow.result c.requires.station c.requires.fits.all
+    c.follow.ensures

@@ -18,10 +18,12 @@ pub loop-station-preserved : goal.loop-station-preserved
 loop-station-preserved c = record {
   few = rw c.with-on.ensures (counts-few c.loop-station.on c.shown.result c.loop-station.station c.loop-station.invariant.few);
   joins = λ before st at beside. rw (c.with-on.ensures, c.shown.ensures)
-      (joins-station c.args.faults.now c.args.channel c.args.drives.now before c.args.self.now c.args.other c.loop-station.station _ _ c.args.tick c.loop-station.on
+      (joins-station c.args.faults.now c.args.channel c.args.drives.now before c.args.self.now c.args.other c.loop-station.station _ _ c.args.tick
+      c.loop-station.on
       c.requires.few st at beside c.loop-station-test.true (c.loop-station.invariant.joins before st at beside));
 }
 
 pub returns : goal.returns
 returns c = λ before st at beside.
-    joins-end c.args.faults.now c.args.channel c.args.drives.now before c.loop-station.station c.loop-station.on (omega arith) (c.loop-station.invariant.joins before st at beside)
+    joins-end c.args.faults.now c.args.channel c.args.drives.now before c.loop-station.station c.loop-station.on (omega arith)
+    (c.loop-station.invariant.joins before st at beside)

@@ -22,5 +22,6 @@ returns-in-A c = λ faults driven drives f here.
 
 pub returns-in-B : goal.returns-in-B
 returns-in-B c = λ faults driven drives f here.
-    follows-drives faults driven drives c.args.station c.args.self.now B c.in-On.sample c.in-On.part c.in-On.last c.follow-self-in-B.new.self c.follow-self-in-B.result
+    follows-drives faults driven drives c.args.station c.args.self.now B c.in-On.sample c.in-On.part c.in-On.last c.follow-self-in-B.new.self
+    c.follow-self-in-B.result
     (rw (c.in-On.is, c.in-B.is) at here) (rw c.deref-in-B.ensures.value at c.follow-self-in-B.ensures) f
