@@ -1,6 +1,6 @@
 -- One station's drive of a tick: its own transmitter on its channel is followed, and all others keep what they have.
 use Rattle.std.proofs.Common.{◌≡◌, ◌≢◌, ℕ, zero, suc, ◌+◌, ◌<◌, ◌≤◌, Bool, true, false, ◌||◌, List, [], ◌∷◌}
-use Rattle.std.proofs.Common.{◌++◌, length, take, set, Some, None, refl, sym, ap, ◌∙◌, subst, inl, inr, arith, if◌then◌else◌}
+use Rattle.std.proofs.Common.{◌++◌, length, take, Some, None, refl, sym, ap, ◌∙◌, subst, inl, inr, arith, if◌then◌else◌}
 use Rattle.std.specs.Prelude.{find, count_by, slice_get, slice_set}
 use Rattle.std.proofs.lemmas.Bool.{lt-ltb, le-ltb, cases_order, cases_eq}
 use Rattle.std.proofs.lemmas.List.{length-set}
@@ -23,6 +23,8 @@ use Rattle.bus_wire.specs.declared.transmitter.Driven.{Driven}
 use Rattle.bus_wire.specs.declared.transmitter.Transmitter.{Transmitter}
 use Rattle.bus_wire.specs.declared.side.Side.{Side}
 use Rattle.bus_wire.proofs.LastLaws.{on-drives}
+use Rattle.bus_wire.proofs.SideLaws.{set-same, set-other}
+use Rattle.bus_wire.proofs.ExtraLaws.{extras-follow}
 use Rattle.bus_wire.proofs.FoundLaws.{found-other-station, found-other-channel}
 use Rattle.bus_wire.proofs.TransmitterLaws.{keeps-quiet, keeps-driving, with-drive-is}
 
@@ -79,21 +81,10 @@ side-passes faults driven drives now begun more c side drive here e same s = rec
   ]);
   driven_is = s.driven_is ∙ ap (λ any. tick_or any (length driven) (newest (by_any c) driven)) (sym (any-next c drives now drive here
       ∙ or-none (by_any c (take now drives)) (drives_on c drive) e));
+  extras = s.extras;
 }
 
 -- ---- a station that drives it
-
-set-same : {A : Type 0} (xs : List A) (i : ℕ) (y : A) → i < length xs → slice_get (set xs i y) i ≡ Some y
-set-same [] i y h = absurd (omega arith)
-set-same (x ∷ xs) zero y h = refl
-set-same (x ∷ xs) (suc i) y h = set-same xs i y (omega arith)
-
-set-other : {A : Type 0} (xs : List A) (i j : ℕ) (y : A) → j ≢ i → slice_get (set xs i y) j ≡ slice_get xs j
-set-other [] i j y h = refl
-set-other (x ∷ xs) zero zero y h = absurd (h refl)
-set-other (x ∷ xs) zero (suc j) y h = refl
-set-other (x ∷ xs) (suc i) zero y h = refl
-set-other (x ∷ xs) (suc i) (suc j) y h = set-other xs i j y (λ e. h (ap suc e))
 
 -- the transmission that may have begun
 abbrev pub begun_by : Bool → ℕ → Channel → Part → ℕ → List Transmission → List Transmission
@@ -157,6 +148,7 @@ side-drives faults driven drives now begun c side new sample part last commands 
         all = length-set side.transmitters now f.next ∙ s.all;
         each = each;
         driven_is = rw any refl;
+        extras = extras-follow side now f.next (Some (length driven)) within s.extras;
       };
       counted = both.1;
       few = follows-few faults commands (record { tick = length driven; part = part; last = last }) goes f.t f.next after f.follows;

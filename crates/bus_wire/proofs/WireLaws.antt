@@ -23,6 +23,7 @@ use Rattle.bus_wire.specs.declared.transmitter.Transmitter.{Transmitter}
 use Rattle.bus_wire.specs.declared.side.Side.{Side}
 use Rattle.bus_wire.specs.declared.wire.Wire.{Wire}
 use Rattle.bus_wire.proofs.TransmitterLaws.{keeps-first, keeps-quiet}
+use Rattle.bus_wire.proofs.ExtraLaws.{extras-new}
 use Rattle.bus_wire.proofs.StationLaws.{so-far-before, so-far-from, begun_by, begun-other-channel, Driving, side-passes, side-drives}
 
 -- ---- a new wire
@@ -33,6 +34,7 @@ side-new faults c side u = record {
   all = u.all;
   each = λ i t at. keeps-first faults i c t (u.each i t at);
   driven_is = u.driven;
+  extras = extras-new side u;
 }
 
 sides-new : (wire : Wire) → IsUnsent wire.a → IsUnsent wire.b → (c : Channel) → SideStands wire.faults.items c (side_of wire c) []
@@ -67,6 +69,7 @@ follows-start faults driven drives wire s = record {
     all = (s.sides c).all;
     each = λ i t at. rw (so-far-from i 0 drives driven (omega arith)) ((s.sides c).each i t at);
     driven_is = (s.sides c).driven_is;
+    extras = (s.sides c).extras;
   };
 }
 
@@ -189,6 +192,7 @@ side-stands faults driven drives begun c side e s = record {
   all = s.all;
   each = λ i t at. rw (← e) (each-stands faults driven drives (find (is_of i c) begun) c i t (s.each i t at));
   driven_is = s.driven_is ∙ ap (λ now. tick_or (by_any c now) (length driven) (newest (by_any c) driven)) (take_all (length drives) drives (omega arith));
+  extras = s.extras;
 }
 
 same-sides : (wire : Wire) (next : ℕ) (c : Channel) → side_of wire c ≡ side_of (record wire { next = next }) c

@@ -7,7 +7,7 @@ use Rattle.bus_formats.specs.declared.fault.Fault.{Fault}
 use Rattle.bus_model.specs.Transmissions.{Transmission, is_of, is_command, newest_drives, with_drives, transmissions}
 use Rattle.bus_wire.specs.Newest.{newest, by_any, tick_or}
 use Rattle.bus_wire.specs.Stands.{Keeps}
-use Rattle.bus_wire.specs.Sides.{SideStands}
+use Rattle.bus_wire.specs.Sides.{SideStands, KnowsExtras}
 use Rattle.bus_wire.specs.declared.transmitter.Transmitter.{Transmitter}
 use Rattle.bus_wire.specs.declared.side.Side.{Side}
 use Rattle.bus_wire.specs.declared.wire.Wire.{Wire}
@@ -35,6 +35,7 @@ pub record SideFollowsTo (faults : List Fault) (driven : List (List Drive)) (dri
   pub each : (i : ℕ) (t : Transmitter) → slice_get side.transmitters i ≡ Some t →
       Keeps faults i c t (so_far i now drives driven) (find (is_of i c) begun)
   pub driven_is : side.driven ≡ tick_or (by_any c (take now drives)) (length driven) (newest (by_any c) driven)
+  pub extras : KnowsExtras side
 
 pub record FollowsTo (faults : List Fault) (driven : List (List Drive)) (drives : List Drive) (now : ℕ) (wire : Wire) : Type 0 where
   pub faults_are : wire.faults.items ≡ faults
