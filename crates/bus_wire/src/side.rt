@@ -11,13 +11,10 @@ use crate::transmitter::{Driven, LONGEST, Transmitter, sample_on};
 use bus_base::{Channel, Drive, Sample};
 use bus_formats::Fault;
 
-/// The most stations of a bus.
-pub const MOST_STATIONS: usize = 32;
-
 /// One channel.
 #[derive(Drop)]
 pub struct Side {
-    // the transmitters of the stations, in the order of the plan
+    // the transmitters of the stations, at most 32, in the order of the plan
     transmitters: [Transmitter; 32],
     // the newest tick in which any station drove the channel
     driven: Option<u64>,

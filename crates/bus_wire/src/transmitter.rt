@@ -141,7 +141,7 @@ impl Transmitter {
         }
     }
 
-    /// The first tick of the newest transmission with an extra, of this one and of those before `earlier`.
+    /// The first tick of the newest transmission with an extra, of this one and the one that began in tick `earlier`.
     pub fn extra_since(&self, earlier: Option<u64>) -> Option<u64>
         ensures { result ≡ extra_with earlier self.now }
     {

@@ -20,14 +20,14 @@ pub struct Shown {
     pub drivers: [u8; 2],
 }
 
-/// The wire between the stations of a bus, with the faults of a plan. It stands for every list of faults and of what was driven that are
-/// told to it: the list of what was driven has a list of drives for each tick, the newest first, with a drive for each station.
+/// The wire between the stations of a bus. It stands for the faults of a plan and for what was driven since tick 0: a list of drives for each
+/// tick, the newest first, with a drive for each station.
 #[derive(Drop)]
 pub struct Wire {
     faults: Vec<Fault>,
     // the number of the tick to come
     next: u64,
-    // the transmissions of commands that have begun
+    // the transmissions of commands that have begun: each station may begin one in each of 2^60 ticks, too many for 64 bits
     commands: u128,
     a: Side,
     b: Side,
