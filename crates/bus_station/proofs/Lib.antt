@@ -2,3 +2,8 @@ pub mod Courses
 pub mod Quiet
 pub mod Offers
 pub mod SoFar
+pub mod Ticks
+pub mod Serving
+pub mod Holding
+pub mod Shown
+pub mod Fitting

@@ -66,10 +66,10 @@ module _ (t : TerminalData) (m : Memory) (c : Channel) (command : ℕ) where
 
   kept-may : (may : Bool) (words : Option (List ℕ)) → MayAccept may (kept t m c command words)
   kept-may may None h = cc
-  kept-may may (Some words) =
+  kept-may may (Some words) h =
       by-test (MayAccept may) (is_illegal t command) _ _
       (λ _. answered-may may (with_error t m c true) [])
-      (λ _ h. (let no : false ≡ true = answer-accepts t m.registers c command false [] h in cc))
+      (λ _ acc. (let no : false ≡ true = answer-accepts t m.registers c command false [] acc in cc)) h
 
 promise-may : (k : ℕ) (t : TerminalData) (m : Memory) (c : Channel) (may : Bool) (d : Duty) (slots : List (Option Word)) (rest : ℕ) → MayAccept may (kept_by k t m c d slots rest)
 promise-may k t m c may free slots rest h = cc

@@ -1,0 +1,16 @@
+-- The stations of an accepted plan have what a station rests on.
+use Rattle.std.proofs.Common.{◌≡◌, ℕ, ◌*◌, ◌≤◌, ◌<◌, List, length, get_or, All, arith}
+use Rattle.std.proofs.lemmas.List.Elements.{All-get_or, All-from_get_or}
+use Rattle.std.proofs.lemmas.List.Sums.{get_or-le-sum_by}
+use Rattle.bus_formats.specs.Plans.{StationData, PlanData}
+use Rattle.bus_formats.specs.Accepted.{IsAccepted, HasStationRanges, HasTerminalRanges, items_in}
+use Rattle.bus_station.specs.Fits.{StationFits}
+
+pub stations-fit : (plan : PlanData) → IsAccepted plan → All StationFits plan.stations
+stations-fit plan accepted i d within =
+    let few = get_or-le-sum_by (λ (s : StationData). s.repeat * items_in s) plan.stations i d within in
+    record {
+      ranges = accepted.ranges i d within;
+      frames = accepted.limits.frames i d within;
+      items = omega (arith, few, accepted.limits.repeated_items);
+    }
