@@ -7,3 +7,8 @@ pub mod Serving
 pub mod Holding
 pub mod Shown
 pub mod Fitting
+pub mod Outside
+pub mod Starting
+pub mod LoadsMade
+pub mod Loading
+pub mod Loaded
