@@ -9,17 +9,20 @@ use Rattle.bus_formats.specs.declared.log.Attempt.{Attempt}
 use Rattle.bus_model.specs.Memory.{TimedLoad}
 use Rattle.bus_model.specs.Starts.{Opening, usual, superseding, taking}
 use Rattle.bus_model.specs.Hearing.{Moment, Hearing}
+use Rattle.bus_model.specs.Terminal.{standing, order_now}
 use Rattle.bus_model.specs.Course.{Take, Course, course}
 use Rattle.bus_model.specs.Control.{OutsideTake, StationSoFar, so_far, hold, serve, hear_more, moment_of, unheard, yielded_in, is_yielded, taking_from}
+use Rattle.bus_terminal.specs.Stands.{channel_of}
 use Rattle.bus_terminal.specs.TerminalStands.{TerminalStands}
 use Rattle.bus_controller.specs.ControllerStands.{ControllerStands, NoneLater}
 use Rattle.bus_station.specs.Roles.{tick_of, still_taking}
-use Rattle.bus_station.specs.Told.{attempts_told, delivery_told, ended_in}
+use Rattle.bus_station.specs.Told.{attempts_told, delivery_told, ended_in, delivery_of, heard_newest, delivered_newest}
 use Rattle.bus_station.specs.StationStands.{taking_of, Stands, StationStands, AfterTick}
 use Rattle.bus_station.specs.declared.station.Station.{Station}
 use Rattle.bus_station.specs.declared.event.StationEvent.{StationEvent}
 use Rattle.bus_station.specs.declared.event.StationEvent.TheVariants as events
 use Rattle.bus_station.proofs.Courses.{ended-before, none-told, none-yielded, one-told, one-yielded, is-calm, has-ended}
+use Rattle.bus_station.proofs.Quiet.{woken-took}
 use Rattle.bus_station.proofs.SoFar.{so_far-tick, keeps}
 use Rattle.bus_station.proofs.Ticks.{made-more, taken-more}
 use Rattle.bus_station.proofs.Serving.{sofar, before}
@@ -81,6 +84,16 @@ module _ (k : ℕ) (station : StationData) (starts : Bool) (loads : List TimedLo
       else serve k station starts loads outside x past s (before k station starts loads outside past)) on
       ∙ ap (λ (b : Bool). record s { hearing = hear_more s.hearing (if b then moment_of x d else unheard) }) is
 
+  -- while control is held no block is taken
+  none-delivered : (x : Pair) (past : List Pair) → (before k station starts loads outside past).holds ≡ true → None ≡ delivered_newest k station starts loads outside (x ∷ past)
+  none-delivered x past on =
+      let kept = keeps k station starts loads outside past in
+      let now : Moment = heard_newest k station starts loads outside x past in
+      let h : Hearing = (sofar k station starts loads outside past).hearing in
+      sym (ap (delivery_of (length h.ticks) (channel_of (standing k station.terminal loads h.memory h.ticks)
+      (order_now k station.terminal (now ∷ h.ticks) (standing k station.terminal loads h.memory h.ticks))))
+      (woken-took k station.terminal loads h.memory now h.ticks (length past) (kept.deaf on)))
+
   held-stands : (old new : Station) (x : Pair) (past : List Pair) (y : Bool) → Stands k station starts loads outside old past (sofar k station starts loads outside past) →
       (before k station starts loads outside past).holds ≡ true →
       yielded_in (length past) (course k station starts (sofar k station starts loads outside past).takes (x ∷ past)).ended ≡ y →
@@ -125,7 +138,7 @@ module _ (k : ℕ) (station : StationData) (starts : Bool) (loads : List TimedLo
             ap (λ (t : StationSoFar). ended_in station.terminal.address n (course k station starts t.takes (x ∷ past)).ended) (so_far-held x past false on quiet)
             ∙ ap (ended_in station.terminal.address n) same
             ∙ none-told station.terminal.address n c.ended old_ones);
-        took = sym (rw on refl);
+        took = none-delivered x past on;
       }
 
   -- this attempt ended
@@ -152,5 +165,5 @@ module _ (k : ℕ) (station : StationData) (starts : Bool) (loads : List TimedLo
             ap (λ (t : StationSoFar). ended_in station.terminal.address n (course k station starts t.takes (x ∷ past)).ended) (so_far-held x past (is_yielded a.outcome) on yields)
             ∙ ap (ended_in station.terminal.address n) is
             ∙ one-told station.terminal.address n a c.ended ending.at);
-        took = sym (rw on refl);
+        took = none-delivered x past on;
       }

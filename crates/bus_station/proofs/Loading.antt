@@ -40,6 +40,8 @@ common-memory k t loads common past m other same st = record {
   made = st.made;
   ears = record { on_a = st.ears.on_a; on_b = st.ears.on_b };
   ended = st.ended;
+  marked = record { on = st.marked.on };
+  newest = λ left. absurd (cc);
 }
 
 state-memory : (k : ℕ) (t : TerminalData) (loads : List TimedLoad) (state : TerminalState) (past : List Moment) (m other : Memory) →

@@ -14,7 +14,7 @@ use Rattle.bus_model.specs.Memory.{Memory, TimedLoad}
 use Rattle.bus_model.specs.Orders.{free}
 use Rattle.bus_model.specs.Hearing.{Moment, heard_on}
 use Rattle.bus_model.specs.Standing.{Standing, at_rest}
-use Rattle.bus_model.specs.Terminal.{standing, after_tick, order_now, marked_by, ordered}
+use Rattle.bus_model.specs.Terminal.{standing, after_tick, order_now, marked_by, ordered, took_now, taken_by}
 use Rattle.bus_model.specs.Control.{unheard, unheard_ticks}
 use Rattle.bus_terminal.specs.Quiet.{quiet_moments}
 use Rattle.bus_terminal.proofs.Quiet.{quiet-heard, quiet-stands, standing-tick}
@@ -44,3 +44,11 @@ woken-free k t loads memory now n =
 
 pub resting-free : (k : ℕ) (t : TerminalData) (loads : List TimedLoad) (memory : Memory) (n : ℕ) → (standing k t loads memory (quiet_moments n)).duty ≡ free
 resting-free k t loads memory n = ap (λ (s : Standing). s.duty) (quiet-stands k t loads memory n)
+
+-- nor takes a block
+pub woken-took : (k : ℕ) (t : TerminalData) (loads : List TimedLoad) (memory : Memory) (now : Moment) (ticks : List Moment) (n : ℕ) → ticks ≡ quiet_moments n →
+    took_now k t loads (record { memory = memory; ticks = now ∷ ticks }) ≡ None
+woken-took k t loads memory now ticks n rests =
+    ap (λ (quiet : List Moment). took_now k t loads (record { memory = memory; ticks = now ∷ quiet })) rests
+    ∙ ap (λ (s : Standing). taken_by k t loads (length (quiet_moments n)) now.may s (order_now k t (now ∷ quiet_moments n) s)) (quiet-stands k t loads memory n)
+    ∙ ap (taken_by k t loads (length (quiet_moments n)) now.may (at_rest memory)) (woken-order k t memory now n)

@@ -2,27 +2,29 @@
 use Rattle.std.proofs.Common.{◌≡◌, ◌≢◌, ℕ, suc, ◌+◌, ◌<◌, ◌≤◌, Bool, true, false, ◌==◌, ◌&&◌, nat_le, List, [], ◌∷◌, ◌++◌, length, Option, Some, None, refl, sym, ap, ◌∙◌, subst, arith, if◌then◌else◌}
 use Rattle.std.proofs.lemmas.Bool.Decides.{nat_tests}
 use Rattle.std.proofs.lemmas.Bool.{le-leb}
+use Rattle.bus_base.specs.declared.samples.Channel.{Channel}
 use Rattle.bus_base.specs.declared.samples.Pair.{Pair}
 use Rattle.bus_base.specs.declared.samples.Tick.{Tick}
 use Rattle.bus_formats.specs.Plans.{StationData, TerminalData}
 use Rattle.bus_formats.specs.declared.log.Attempt.{Attempt}
 use Rattle.bus_model.specs.Memory.{TimedLoad}
+use Rattle.bus_model.specs.Orders.{Taken}
 use Rattle.bus_model.specs.Waits.{taking_over}
 use Rattle.bus_model.specs.Starts.{Entry, has_items}
 use Rattle.bus_model.specs.Hearing.{Moment, Hearing}
 use Rattle.bus_model.specs.Standing.{Standing}
-use Rattle.bus_model.specs.Terminal.{standing, accepted_now, accepted_on, memory_after}
+use Rattle.bus_model.specs.Terminal.{standing, order_now, took_now, accepted_now, accepted_on, memory_after}
 use Rattle.bus_model.specs.Course.{Take, Course, course, take_control}
 use Rattle.bus_model.specs.Control.{OutsideTake, StationSoFar, so_far, hold, serve, taken_over, takes_in, outside_takes, is_outside, accepted_take, hear_more, moment_of, unheard, unheard_ticks, taking_from}
 use Rattle.bus_terminal.specs.Quiet.{quiet_moments}
-use Rattle.bus_terminal.specs.Stands.{AreMade}
+use Rattle.bus_terminal.specs.Stands.{AreMade, channel_of}
 use Rattle.bus_terminal.specs.TerminalStands.{TerminalStands}
 use Rattle.bus_terminal.specs.declared.terminal.Terminal.{Terminal}
 use Rattle.bus_terminal.specs.declared.state.TerminalEvent.{TerminalEvent}
 use Rattle.bus_controller.specs.ControllerStands.{ControllerStands, NoneLater}
 use Rattle.bus_controller.proofs.Wholes.{course-taken}
 use Rattle.bus_station.specs.Roles.{tick_of}
-use Rattle.bus_station.specs.Told.{attempts_told, delivery_told, delivery_of, ended_in}
+use Rattle.bus_station.specs.Told.{attempts_told, delivery_told, delivery_of, ended_in, heard_newest, delivery_in, delivered_newest}
 use Rattle.bus_station.specs.StationStands.{AreTaken, taking_of, Stands, StationStands, AfterTick}
 use Rattle.bus_station.specs.declared.station.Station.{Station}
 use Rattle.bus_station.specs.declared.event.StationEvent.{StationEvent}
@@ -72,6 +74,20 @@ module _ (k : ℕ) (station : StationData) (starts : Bool) (loads : List TimedLo
       else serve k station starts loads outside x past (sofar past) (before past)) off
       ∙ ap (taken_over k station starts loads outside (x ∷ past) (sofar past) (hear_more (sofar past).hearing (moment_of x (before past)))) made
 
+  -- a terminal that serves tells the block that it took
+  served-delivered : (event : TerminalEvent) (terminal : Terminal) (x : Pair) (past : List Pair) → (before past).holds ≡ false →
+      HeardBy k station.terminal loads terminal event (length past) (sofar past).hearing (moment_of x (before past)) →
+      delivery_heard event ≡ delivered_newest k station starts loads outside (x ∷ past)
+  served-delivered event terminal x past off heard =
+      let h : Hearing = (sofar past).hearing in
+      let now : Moment = moment_of x (before past) in
+      let same : heard_newest k station starts loads outside x past ≡ now = rw off refl in
+      let c : Channel = channel_of (standing k station.terminal loads h.memory h.ticks) (order_now k station.terminal (now ∷ h.ticks) (standing k station.terminal loads h.memory h.ticks)) in
+      let taken : Option Taken = took_now k station.terminal loads (hear_more h now) in
+      taken-told event (length past) c taken heard.took
+      ∙ ap (λ (tick : ℕ). delivery_of tick c taken) (sym (keeps k station starts loads outside past).long)
+      ∙ sym (ap (λ (m : Moment). delivery_in k station starts loads outside m h) same)
+
   -- ---- no control is taken
 
   pub served : (old new : Station) (event : TerminalEvent) (told : StationEvent) (x : Pair) (past : List Pair) →
@@ -102,7 +118,7 @@ module _ (k : ℕ) (station : StationData) (starts : Bool) (loads : List TimedLo
             ap (λ (s : StationSoFar). ended_in station.terminal.address n (course k station starts s.takes (x ∷ past)).ended) same
             ∙ ap (λ (d : Course). ended_in station.terminal.address n d.ended) course_same
             ∙ none-told station.terminal.address n c.ended (ended-before k station starts (sofar past).takes past));
-        took = delivery ∙ taken-told event n _ _ heard.took ∙ sym (rw (off, kept.long) refl);
+        took = delivery ∙ served-delivered event new.terminal x past off heard;
       }
 
   -- ---- control is taken
@@ -160,7 +176,7 @@ module _ (k : ℕ) (station : StationData) (starts : Bool) (loads : List TimedLo
             ∙ ap (λ (d : Course). ended_in station.terminal.address n d.ended) (course-taken k station starts (sofar past).takes first (x ∷ past))
             ∙ ap (λ (d : Course). ended_in station.terminal.address n d.ended) course_same
             ∙ none-told station.terminal.address n c.ended (ended-before k station starts (sofar past).takes past));
-        took = delivery ∙ taken-told event n _ _ heard.took ∙ sym (rw (off, kept.long) refl);
+        took = delivery ∙ served-delivered event terminal x past off heard;
       }
 
   -- items are left where control is accepted

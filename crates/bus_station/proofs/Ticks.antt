@@ -71,7 +71,7 @@ taken-told (heards.Took delivery) tick c taken h = rw (h.2, ← h.1, ← h.0) re
 -- and where it tells no acceptance, none came
 pub none-accepted : (event : TerminalEvent) (end : Option ℕ) → (event ≡ heards.Accepted → ⊥) → AcceptedIs event end → end ≡ None
 none-accepted heards.Nothing end other h = h
-none-accepted (heards.Took delivery) end other h = ?
+none-accepted (heards.Took delivery) end other h = h
 none-accepted heards.Accepted end other h = absurd (other refl)
 
 pub some-end : (end : Option ℕ) → is_some end ≡ true → (n : ℕ) × (end ≡ Some n)
