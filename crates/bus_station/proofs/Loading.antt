@@ -151,9 +151,11 @@ module _ (k : ℕ) (station : StationData) (starts : Bool) (loads : List TimedLo
       let rests : unheard_ticks past ≡ quiet_moments (suc load.tick) = unheard-quiet past ∙ ap quiet_moments here in
       record {
         takes = refl;
-        hearing = inr (rests,
+        hearing = inr (
+          rests,
           ap (λ (m : Memory). record { memory = m; ticks = unheard_ticks past }) (memory-loaded h own now)
-          ∙ ap (λ (ticks : List Moment). record { memory = load_block (memory_after k station.terminal loads h) load.sub load.words; ticks = ticks }) rests);
+              ∙ ap (λ (ticks : List Moment). record { memory = load_block (memory_after k station.terminal loads h) load.sub load.words; ticks = ticks }) rests,
+        );
       }
 
   -- after its tick it is loaded

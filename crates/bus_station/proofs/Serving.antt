@@ -25,6 +25,7 @@ use Rattle.bus_controller.specs.ControllerStands.{ControllerStands, NoneLater}
 use Rattle.bus_controller.proofs.Wholes.{course-taken}
 use Rattle.bus_station.specs.Roles.{tick_of}
 use Rattle.bus_station.specs.Told.{attempts_told, delivery_told, delivery_of, ended_in, heard_newest, delivery_in, delivered_newest}
+use Rattle.bus_station.specs.Hears.{HeardBy}
 use Rattle.bus_station.specs.StationStands.{AreTaken, taking_of, Stands, StationStands, AfterTick}
 use Rattle.bus_station.specs.declared.station.Station.{Station}
 use Rattle.bus_station.specs.declared.event.StationEvent.{StationEvent}
@@ -33,7 +34,7 @@ use Rattle.bus_station.proofs.Courses.{serves-more, ended-before, none-told}
 use Rattle.bus_station.proofs.Quiet.{unheard-quiet}
 use Rattle.bus_station.proofs.Offers.{accepted-owed, some-left}
 use Rattle.bus_station.proofs.SoFar.{so_far-tick, keeps}
-use Rattle.bus_station.proofs.Ticks.{made-more, taken-more, not-outside, HeardBy, delivery_heard, taken-told}
+use Rattle.bus_station.proofs.Ticks.{made-more, taken-more, not-outside, delivery_heard, taken-told}
 
 -- where control isn't held it isn't being taken
 off-taking : (n : ℕ) (c : Course) → c.holds ≡ false → taking_of n c ≡ None
@@ -110,7 +111,7 @@ module _ (k : ℕ) (station : StationData) (starts : Bool) (loads : List TimedLo
           controller = controller;
           terminal = heard.stands;
           taking = taking ∙ st.taking ∙ ap tick_of (off-taking n c off)
-          ∙ sym (ap tick_of (off-taking (suc n) (course k station starts (sofar past).takes (x ∷ past)) (ap (λ (d : Course). d.holds) course_same ∙ off)));
+              ∙ sym (ap tick_of (off-taking (suc n) (course k station starts (sofar past).takes (x ∷ past)) (ap (λ (d : Course). d.holds) course_same ∙ off)));
           made = made-more station.terminal.address n loads st.made;
           taken = taken-more station.terminal.address n outside st.taken;
         };

@@ -16,8 +16,6 @@ use Rattle.bus_model.specs.Standing.{Standing}
 use Rattle.bus_model.specs.Terminal.{standing, order_now, took_now, accepted_now, accepted_by, heard_status, given_up}
 use Rattle.bus_model.specs.Control.{OutsideTake, hear_more}
 use Rattle.bus_terminal.specs.Stands.{AreMade, TakenIs, AcceptedIs, channel_of}
-use Rattle.bus_terminal.specs.TerminalStands.{TerminalStands}
-use Rattle.bus_terminal.specs.declared.terminal.Terminal.{Terminal}
 use Rattle.bus_terminal.specs.declared.state.TerminalEvent.{TerminalEvent}
 use Rattle.bus_terminal.specs.declared.state.TerminalEvent.TheVariants as heards
 use Rattle.bus_terminal.proofs.Ends.{ended-place}
@@ -45,18 +43,11 @@ not-outside address own tick n before = elim (cases_Bool (address == own)) [
       rw no refl)
   | inr other ↦ rw other (both (tick == n))
 ] where
-    both : (b : Bool) → (b && false) ≡ false
-    both true = refl
-    both false = refl
+  both : (b : Bool) → (b && false) ≡ false
+  both true = refl
+  both false = refl
 
 -- ---- the events of a terminal
-
--- what a terminal heard and told in a tick
-pub record HeardBy (k : ℕ) (t : TerminalData) (loads : List TimedLoad) (terminal : Terminal) (event : TerminalEvent) (tick : ℕ) (hearing : Hearing) (now : Moment) : Type 0 where
-  pub stands : TerminalStands k t loads terminal (hear_more hearing now)
-  pub took : TakenIs event tick (channel_of (standing k t loads hearing.memory hearing.ticks) (order_now k t (now ∷ hearing.ticks) (standing k t loads hearing.memory hearing.ticks)))
-      (took_now k t loads (hear_more hearing now))
-  pub accepted : AcceptedIs event (accepted_now k t loads (hear_more hearing now))
 
 abbrev pub delivery_heard : TerminalEvent → Option Delivery
 delivery_heard (heards.Took delivery) = Some delivery
@@ -95,9 +86,9 @@ accepted-end-by k t loads past x s (owes words true) end h =
     by-test (λ (r : Option ℕ). r ≡ Some end → end + k ≡ length past) (given_up k t past s) None (heard_status (due_after t s.end) (ended_now k (x ∷ past)))
     (λ _ is. absurd (cc))
     (λ _ is. (
-        let (burst, ended, here) = status-end (due_after t s.end) (ended_now k (x ∷ past)) end is in
-        let place = ended-place k (x ∷ past) burst ended in
-        omega (arith, place.0, here)))
+    let (burst, ended, here) = status-end (due_after t s.end) (ended_now k (x ∷ past)) end is in
+    let place = ended-place k (x ∷ past) burst ended in
+    omega (arith, place.0, here)))
     h
 
 -- it lies k ticks before the tick in which it is known
@@ -106,17 +97,3 @@ pub accepted-end : (k : ℕ) (t : TerminalData) (loads : List TimedLoad) (now : 
 accepted-end k t loads now hearing end h =
     let s : Standing = standing k t loads hearing.memory hearing.ticks in
     accepted-end-by k t loads (heard_on s.channel hearing.ticks) _ s s.duty end h ∙ length-heard s.channel hearing.ticks
-
--- a terminal heard a tick, with leave to accept control or without
-pub heard-by : (k : ℕ) (t : TerminalData) (loads : List TimedLoad) (terminal : Terminal) (event : TerminalEvent) (tick : ℕ) (hearing : Hearing) (x : Pair) (a b : Bool) (n : ℕ) → n ≡ tick → a ≡ b →
-    TerminalStands k t loads terminal (hear_more hearing (record { shown = x; may = a })) →
-    TakenIs event tick
-    (channel_of (standing k t loads hearing.memory hearing.ticks)
-    (order_now k t (record { shown = x; may = a } ∷ hearing.ticks) (standing k t loads hearing.memory hearing.ticks)))
-    (took_now k t loads (hear_more hearing (record { shown = x; may = a }))) →
-    AcceptedIs event (accepted_now k t loads (hear_more hearing (record { shown = x; may = a }))) →
-    HeardBy k t loads terminal event n hearing (record { shown = x; may = b })
-heard-by k t loads terminal event tick hearing x a b n here may stands took accepted =
-    subst (λ (m : Bool). HeardBy k t loads terminal event n hearing (record { shown = x; may = m })) may
-    (subst (λ (i : ℕ). HeardBy k t loads terminal event i hearing (record { shown = x; may = a })) (sym here)
-    record { stands = stands; took = took; accepted = accepted })
