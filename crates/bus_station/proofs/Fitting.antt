@@ -1,9 +1,8 @@
 -- The stations of an accepted plan have what a station rests on.
-use Rattle.std.proofs.Common.{◌≡◌, ℕ, ◌*◌, ◌≤◌, ◌<◌, List, length, get_or, All, arith}
-use Rattle.std.proofs.lemmas.List.Elements.{All-get_or, All-from_get_or}
+use Rattle.std.proofs.Common.{◌*◌, All, arith}
 use Rattle.std.proofs.lemmas.List.Sums.{get_or-le-sum_by}
 use Rattle.bus_formats.specs.Plans.{StationData, PlanData}
-use Rattle.bus_formats.specs.Accepted.{IsAccepted, HasStationRanges, HasTerminalRanges, items_in}
+use Rattle.bus_formats.specs.Accepted.{IsAccepted, items_in}
 use Rattle.bus_station.specs.Fits.{StationFits}
 
 pub stations-fit : (plan : PlanData) → IsAccepted plan → All StationFits plan.stations

@@ -1,5 +1,5 @@
 -- A tick of a station that holds control.
-use Rattle.std.proofs.Common.{◌≡◌, ℕ, suc, ◌<◌, ◌≤◌, Bool, true, false, nat_le, nat_lt, List, [], ◌∷◌, length, Option, Some, None, refl, sym, ap, ◌∙◌, subst, arith, inl, inr, if◌then◌else◌}
+use Rattle.std.proofs.Common.{◌≡◌, ℕ, suc, Bool, true, false, nat_le, nat_lt, List, [], ◌∷◌, length, Option, Some, None, refl, sym, ap, ◌∙◌, subst, arith, inl, inr, if◌then◌else◌}
 use Rattle.std.proofs.lemmas.Bool.{cases_lt}
 use Rattle.std.proofs.lemmas.Bool.Decides.{nat_tests}
 use Rattle.bus_base.specs.declared.samples.Pair.{Pair}
@@ -10,16 +10,15 @@ use Rattle.bus_model.specs.Memory.{TimedLoad}
 use Rattle.bus_model.specs.Starts.{Opening, usual, superseding, taking}
 use Rattle.bus_model.specs.Hearing.{Moment, Hearing}
 use Rattle.bus_model.specs.Terminal.{standing, order_now}
-use Rattle.bus_model.specs.Course.{Take, Course, course}
-use Rattle.bus_model.specs.Control.{OutsideTake, StationSoFar, so_far, hold, serve, hear_more, moment_of, unheard, yielded_in, is_yielded, taking_from}
+use Rattle.bus_model.specs.Course.{Course, course}
+use Rattle.bus_model.specs.Control.{OutsideTake, StationSoFar, hold, serve, hear_more, moment_of, unheard, yielded_in, is_yielded, taking_from}
 use Rattle.bus_terminal.specs.Stands.{channel_of}
 use Rattle.bus_terminal.specs.TerminalStands.{TerminalStands}
-use Rattle.bus_controller.specs.ControllerStands.{ControllerStands, NoneLater}
+use Rattle.bus_controller.specs.ControllerStands.{ControllerStands}
 use Rattle.bus_station.specs.Roles.{tick_of, still_taking}
-use Rattle.bus_station.specs.Told.{attempts_told, delivery_told, ended_in, delivery_of, heard_newest, delivered_newest}
+use Rattle.bus_station.specs.Told.{ended_in, delivery_of, heard_newest, delivered_newest}
 use Rattle.bus_station.specs.StationStands.{taking_of, Stands, StationStands, AfterTick}
 use Rattle.bus_station.specs.declared.station.Station.{Station}
-use Rattle.bus_station.specs.declared.event.StationEvent.{StationEvent}
 use Rattle.bus_station.specs.declared.event.StationEvent.TheVariants as events
 use Rattle.bus_station.proofs.Courses.{ended-before, none-told, none-yielded, one-told, one-yielded, is-calm, has-ended}
 use Rattle.bus_station.proofs.Quiet.{woken-took}
@@ -33,7 +32,8 @@ told : (first : ℕ) (early : Bool) → (if early then Some record { 0 = first }
 told first true = refl
 told first false = refl
 
-still-if : (n first : ℕ) (b : Bool) → (b ≡ false → nat_lt n first ≡ false) → still_taking (tick_of (if b then Some first else None)) n ≡ tick_of (if nat_lt n first then Some first else None)
+still-if : (n first : ℕ) (b : Bool) → (b ≡ false → nat_lt n first ≡ false) → still_taking (tick_of (if b then Some first else None)) n ≡ tick_of
+    (if nat_lt n first then Some first else None)
 still-if n first true h = told first (nat_lt n first)
 still-if n first false h = rw (h refl) refl
 
@@ -60,7 +60,8 @@ still n (usual need tick) = refl
 still n (superseding tick channel) = refl
 still n (taking first) = still-by n first
 
-held-taking : (n : ℕ) (c d : Course) → c.holds ≡ true → d.holds ≡ c.holds → d.opening ≡ c.opening → still_taking (tick_of (taking_of n c)) n ≡ tick_of (taking_of (suc n) d)
+held-taking : (n : ℕ) (c d : Course) → c.holds ≡ true → d.holds ≡ c.holds → d.opening ≡ c.opening → still_taking (tick_of (taking_of n c)) n ≡ tick_of
+    (taking_of (suc n) d)
 held-taking n c d on holds opens = rw (holds, on, opens) (still n c.opening)
 
 ended-taking : (n : ℕ) (d : Course) → taking_from n d.opening ≡ None → (b : Bool) → d.holds ≡ b → None ≡ tick_of (taking_of n d)
@@ -85,7 +86,8 @@ module _ (k : ℕ) (station : StationData) (starts : Bool) (loads : List TimedLo
       ∙ ap (λ (b : Bool). record s { hearing = hear_more s.hearing (if b then moment_of x d else unheard) }) is
 
   -- while control is held no block is taken
-  none-delivered : (x : Pair) (past : List Pair) → (before k station starts loads outside past).holds ≡ true → None ≡ delivered_newest k station starts loads outside (x ∷ past)
+  none-delivered : (x : Pair) (past : List Pair) → (before k station starts loads outside past).holds ≡ true →
+      None ≡ delivered_newest k station starts loads outside (x ∷ past)
   none-delivered x past on =
       let kept = keeps k station starts loads outside past in
       let now : Moment = heard_newest k station starts loads outside x past in
@@ -94,7 +96,8 @@ module _ (k : ℕ) (station : StationData) (starts : Bool) (loads : List TimedLo
       (order_now k station.terminal (now ∷ h.ticks) (standing k station.terminal loads h.memory h.ticks))))
       (woken-took k station.terminal loads h.memory now h.ticks (length past) (kept.deaf on)))
 
-  held-stands : (old new : Station) (x : Pair) (past : List Pair) (y : Bool) → Stands k station starts loads outside old past (sofar k station starts loads outside past) →
+  held-stands : (old new : Station) (x : Pair) (past : List Pair) (y : Bool) → Stands k station starts loads outside old past
+      (sofar k station starts loads outside past) →
       (before k station starts loads outside past).holds ≡ true →
       yielded_in (length past) (course k station starts (sofar k station starts loads outside past).takes (x ∷ past)).ended ≡ y →
       ControllerStands k station starts (sofar k station starts loads outside past).takes new.controller (x ∷ past) →
@@ -135,14 +138,16 @@ module _ (k : ℕ) (station : StationData) (starts : Bool) (loads : List TimedLo
         stands = held-stands old new x past false st on quiet controller terminal address
             (first_is ∙ ap (λ (t : Option Tick). still_taking t n) st.taking ∙ held-taking n c d on calm.holds calm.opening);
         ended = sym (
-            ap (λ (t : StationSoFar). ended_in station.terminal.address n (course k station starts t.takes (x ∷ past)).ended) (so_far-held x past false on quiet)
+            ap (λ (t : StationSoFar). ended_in station.terminal.address n (course k station starts t.takes (x ∷ past)).ended)
+            (so_far-held x past false on quiet)
             ∙ ap (ended_in station.terminal.address n) same
             ∙ none-told station.terminal.address n c.ended old_ones);
         took = none-delivered x past on;
       }
 
   -- this attempt ended
-  pub closed : (old new : Station) (x : Pair) (past : List Pair) (a : Attempt) → Stands k station starts loads outside old past (sofar k station starts loads outside past) →
+  pub closed : (old new : Station) (x : Pair) (past : List Pair) (a : Attempt) → Stands k station starts loads outside old past
+      (sofar k station starts loads outside past) →
       (before k station starts loads outside past).holds ≡ true →
       (course k station starts (sofar k station starts loads outside past).takes (x ∷ past)).ended ≡ a ∷ (before k station starts loads outside past).ended →
       ControllerStands k station starts (sofar k station starts loads outside past).takes new.controller (x ∷ past) →
@@ -162,7 +167,8 @@ module _ (k : ℕ) (station : StationData) (starts : Bool) (loads : List TimedLo
         stands = held-stands old new x past (is_yielded a.outcome) st on yields controller terminal address
             (first_is ∙ ended-taking (suc n) d (ending.opens (suc n)) d.holds refl);
         ended = ap (λ (own : ℕ). record a { station = own } ∷ []) (address ∙ st.address) ∙ sym (
-            ap (λ (t : StationSoFar). ended_in station.terminal.address n (course k station starts t.takes (x ∷ past)).ended) (so_far-held x past (is_yielded a.outcome) on yields)
+            ap (λ (t : StationSoFar). ended_in station.terminal.address n (course k station starts t.takes (x ∷ past)).ended)
+            (so_far-held x past (is_yielded a.outcome) on yields)
             ∙ ap (ended_in station.terminal.address n) is
             ∙ one-told station.terminal.address n a c.ended ending.at);
         took = none-delivered x past on;

@@ -1,5 +1,5 @@
 -- A block is put up for sending in a station's terminal: a timed load at the last tick heard.
-use Rattle.std.proofs.Common.{◌≡◌, ℕ, suc, ◌<◌, ◌≤◌, Bool, true, false, List, [], ◌∷◌, ◌++◌, length, Some, refl, sym, ap, ◌∙◌, subst, arith, inl, inr, ◌⊎◌, if◌then◌else◌}
+use Rattle.std.proofs.Common.{◌≡◌, ℕ, suc, ◌<◌, ◌≤◌, Bool, true, false, List, [], ◌∷◌, ◌++◌, length, refl, sym, ap, ◌∙◌, subst, arith, inl, inr, ◌⊎◌, if◌then◌else◌}
 use Rattle.bus_base.specs.declared.samples.Pair.{Pair}
 use Rattle.bus_formats.specs.Plans.{StationData, TerminalData}
 use Rattle.bus_model.specs.Memory.{Memory, TimedLoad, with_loads, load_block}
@@ -7,7 +7,7 @@ use Rattle.bus_model.specs.Hearing.{Moment, Hearing}
 use Rattle.bus_model.specs.Standing.{Standing, at_rest}
 use Rattle.bus_model.specs.Terminal.{standing, accepted_now, accepted_on, memory_after}
 use Rattle.bus_model.specs.Course.{Take, Course, course}
-use Rattle.bus_model.specs.Control.{OutsideTake, StationSoFar, so_far, so_far_after, hold, serve, taken_over, takes_in, outside_takes, accepted_take, hear_more, moment_of, unheard_ticks}
+use Rattle.bus_model.specs.Control.{OutsideTake, StationSoFar, so_far, so_far_after, hold, taken_over, takes_in, outside_takes, accepted_take, hear_more, moment_of, unheard_ticks}
 use Rattle.bus_terminal.specs.Quiet.{quiet_moments}
 use Rattle.bus_terminal.specs.Stands.{CommonStands, StateStands}
 use Rattle.bus_terminal.specs.TerminalStands.{TerminalStands}
@@ -18,14 +18,10 @@ use Rattle.bus_terminal.specs.declared.state.TerminalState.TheVariants as states
 use Rattle.bus_terminal.proofs.Quiet.{quiet-stands}
 use Rattle.bus_terminal.proofs.Loading.{standing-load}
 use Rattle.bus_terminal.proofs.Waking.{quiet-length}
-use Rattle.bus_controller.specs.ControllerStands.{ControllerStands}
-use Rattle.bus_station.specs.StationStands.{Stands, StationStands, taking_of}
-use Rattle.bus_station.specs.Roles.{tick_of}
-use Rattle.bus_station.specs.declared.station.Station.{Station}
 use Rattle.bus_station.proofs.Quiet.{unheard-quiet}
 use Rattle.bus_station.proofs.SoFar.{so_far-tick, keeps}
 use Rattle.bus_station.proofs.Serving.{sofar}
-use Rattle.bus_station.proofs.LoadsMade.{late-load, made-load, made-append, swallowed}
+use Rattle.bus_station.proofs.LoadsMade.{late-load, made-load}
 
 -- ---- a terminal at rest stands for each memory that the loads make the same
 
@@ -67,16 +63,20 @@ other-memory k t loads terminal n m other same st =
 
 -- what a load in the last tick heard does to a terminal
 abbrev pub Loads : (k : ℕ) (t : TerminalData) (loads : List TimedLoad) (sub : ℕ) (words : List ℕ) (old new : Terminal) → Type 0
-Loads k t loads sub words old new = (memory : Memory) (now : Moment) (past : List Moment) → TerminalStands k t loads old (record { memory = memory; ticks = now ∷ past }) →
-    TerminalStands k t (loads ++ record { tick = length past; address = t.address; sub = sub; words = words } ∷ []) new (record { memory = memory; ticks = now ∷ past })
+Loads k t loads sub words old new = (memory : Memory) (now : Moment) (past : List Moment) →
+    TerminalStands k t loads old (record { memory = memory; ticks = now ∷ past }) →
+    TerminalStands k t (loads ++ record { tick = length past; address = t.address; sub = sub; words = words } ∷ []) new
+    (record { memory = memory; ticks = now ∷ past })
 
-pub loaded-ticks : (k : ℕ) (t : TerminalData) (loads : List TimedLoad) (sub : ℕ) (words : List ℕ) (old new : Terminal) (n : ℕ) (memory : Memory) (ticks : List Moment) →
+pub loaded-ticks : (k : ℕ) (t : TerminalData) (loads : List TimedLoad) (sub : ℕ) (words : List ℕ) (old new : Terminal) (n : ℕ) (memory : Memory)
+    (ticks : List Moment) →
     Loads k t loads sub words old new → length ticks ≡ suc n → TerminalStands k t loads old (record { memory = memory; ticks = ticks }) →
     TerminalStands k t (loads ++ record { tick = n; address = t.address; sub = sub; words = words } ∷ []) new (record { memory = memory; ticks = ticks })
 loaded-ticks k t loads sub words old new n memory [] loaded long st = absurd (omega (arith, long))
 loaded-ticks k t loads sub words old new n memory (now ∷ past) loaded long st =
     let here : length past ≡ n = omega (arith, long) in
-    subst (λ (i : ℕ). TerminalStands k t (loads ++ record { tick = i; address = t.address; sub = sub; words = words } ∷ []) new (record { memory = memory; ticks = now ∷ past })) here
+    subst (λ (i : ℕ). TerminalStands k t (loads ++ record { tick = i; address = t.address; sub = sub; words = words } ∷ []) new
+    (record { memory = memory; ticks = now ∷ past })) here
     (loaded memory now past st)
 
 -- ---- a station with one load more
@@ -85,9 +85,14 @@ loaded-ticks k t loads sub words old new n memory (now ∷ past) loaded long st 
 pub record IsLoaded (n sub : ℕ) (words : List ℕ) (s loaded : StationSoFar) : Type 0 where
   pub takes : loaded.takes ≡ s.takes
   pub hearing : (loaded.hearing ≡ s.hearing)
-      ⊎ ((s.hearing.ticks ≡ quiet_moments (suc n)) × (loaded.hearing ≡ record { memory = load_block s.hearing.memory sub words; ticks = quiet_moments (suc n) }))
+      ⊎ ((s.hearing.ticks ≡ quiet_moments (suc n)) × (loaded.hearing ≡ record {
+        memory = load_block s.hearing.memory sub words;
+        ticks = quiet_moments
+            (suc n);
+      }))
 
-loaded-if : (n sub : ℕ) (words : List ℕ) (b : Bool) (h v loaded : StationSoFar) → IsLoaded n sub words v loaded → IsLoaded n sub words (if b then h else v) (if b then h else loaded)
+loaded-if : (n sub : ℕ) (words : List ℕ) (b : Bool) (h v loaded : StationSoFar) → IsLoaded n sub words v loaded →
+    IsLoaded n sub words (if b then h else v) (if b then h else loaded)
 loaded-if n sub words true h v loaded is = record { takes = refl; hearing = inl refl }
 loaded-if n sub words false h v loaded is = is
 
@@ -137,15 +142,18 @@ module _ (k : ℕ) (station : StationData) (starts : Bool) (loads : List TimedLo
       (taken-late (x ∷ past) s h (takes_in k station starts loads outside (length past) h) (omega (arith, long, early)))
 
   -- nothing up to its tick changes
-  before-load : (past : List Pair) → length past ≤ load.tick → sofar k station starts (with-load loads load) outside past ≡ sofar k station starts loads outside past
+  before-load : (past : List Pair) → length past ≤ load.tick →
+      sofar k station starts (with-load loads load) outside past ≡ sofar k station starts loads outside past
   unfolding so_far
   before-load [] early = refl
   before-load (x ∷ past) early =
       ap (so_far_after k station starts (with-load loads load) outside x past) (before-load past (omega (arith, early)))
       ∙ after-load x past (sofar k station starts loads outside past) (keeps k station starts loads outside past).long (omega (arith, early))
 
-  taken-now : (past : List Pair) (s : StationSoFar) (h : Hearing) (takes : List Take) → load.address ≡ station.terminal.address → length h.ticks ≡ suc load.tick → length past ≡ suc load.tick →
-      IsLoaded load.tick load.sub load.words (taken_over k station starts loads outside past s h takes) (taken_over k station starts (with-load loads load) outside past s h takes)
+  taken-now : (past : List Pair) (s : StationSoFar) (h : Hearing) (takes : List Take) → load.address ≡ station.terminal.address →
+      length h.ticks ≡ suc load.tick → length past ≡ suc load.tick →
+      IsLoaded load.tick load.sub load.words (taken_over k station starts loads outside past s h takes)
+      (taken_over k station starts (with-load loads load) outside past s h takes)
   taken-now past s h [] own now here = record { takes = refl; hearing = inl refl }
   taken-now past s h (take ∷ takes) own now here =
       let rests : unheard_ticks past ≡ quiet_moments (suc load.tick) = unheard-quiet past ∙ ap quiet_moments here in
@@ -160,7 +168,8 @@ module _ (k : ℕ) (station : StationData) (starts : Bool) (loads : List TimedLo
 
   -- after its tick it is loaded
   pub now-load : (x : Pair) (past : List Pair) → load.address ≡ station.terminal.address → length past ≡ load.tick →
-      IsLoaded load.tick load.sub load.words (sofar k station starts loads outside (x ∷ past)) (sofar k station starts (with-load loads load) outside (x ∷ past))
+      IsLoaded load.tick load.sub load.words (sofar k station starts loads outside (x ∷ past)) (sofar k station starts (with-load loads load) outside
+      (x ∷ past))
   now-load x past own here =
       let s : StationSoFar = sofar k station starts loads outside past in
       let c : Course = course k station starts s.takes past in
@@ -176,7 +185,8 @@ module _ (k : ℕ) (station : StationData) (starts : Bool) (loads : List TimedLo
       ∙ ap (λ (all : List Take). if c.holds then hold k station starts loads outside x past s (course k station starts s.takes (x ∷ past))
       else taken_over k station starts (with-load loads load) outside (x ∷ past) s h all) (takes-load (length past) m s.hearing (omega (arith, long, here))) in
       subst (λ (loaded : StationSoFar). IsLoaded load.tick load.sub load.words (sofar k station starts loads outside (x ∷ past)) loaded) (sym same)
-      (subst (λ (t : StationSoFar). IsLoaded load.tick load.sub load.words t (if c.holds then hold k station starts loads outside x past s (course k station starts s.takes (x ∷ past))
+      (subst (λ (t : StationSoFar). IsLoaded load.tick load.sub load.words t (if c.holds then hold k station starts loads outside x past s
+      (course k station starts s.takes (x ∷ past))
       else taken_over k station starts (with-load loads load) outside (x ∷ past) s h takes)) (sym (so_far-tick k station starts loads outside x past))
       (loaded-if load.tick load.sub load.words c.holds (hold k station starts loads outside x past s (course k station starts s.takes (x ∷ past)))
       (taken_over k station starts loads outside (x ∷ past) s h takes) (taken_over k station starts (with-load loads load) outside (x ∷ past) s h takes)

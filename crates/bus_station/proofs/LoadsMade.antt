@@ -1,5 +1,5 @@
 -- Timed loads: one more, and one that is made twice.
-use Rattle.std.proofs.Common.{◌≡◌, ◌≢◌, ℕ, ◌<◌, ◌≤◌, Bool, true, false, ◌&&◌, ◌==◌, nat_lt, List, [], ◌∷◌, ◌++◌, refl, ap, ◌∙◌, arith, inl, inr, if◌then◌else◌}
+use Rattle.std.proofs.Common.{◌≡◌, ◌≢◌, ℕ, ◌<◌, ◌≤◌, Bool, true, false, ◌&&◌, ◌==◌, nat_lt, List, [], ◌∷◌, ◌++◌, refl, ap, ◌∙◌, inl, inr, if◌then◌else◌}
 use Rattle.std.proofs.lemmas.Bool.{lt-ltb, le-ltb, eq-eqb, eqb-true, cases_Bool}
 use Rattle.std.proofs.lemmas.List.{set-set, set_comm}
 use Rattle.bus_model.specs.Memory.{Memory, TimedLoad, with_loads, load_due, load_block}
@@ -30,7 +30,8 @@ pub made-load : (address now : ℕ) (loads : List TimedLoad) (load : TimedLoad) 
 made-load address now [] load m e h = rw (is-due address now load e h) refl
 made-load address now (first ∷ loads) load m e h = made-load address now loads load _ e h
 
-pub made-append : (address now : ℕ) (loads : List TimedLoad) (load : TimedLoad) → AreMade address now loads → load.tick < now → AreMade address now (loads ++ load ∷ [])
+pub made-append : (address now : ℕ) (loads : List TimedLoad) (load : TimedLoad) → AreMade address now loads → load.tick < now →
+    AreMade address now (loads ++ load ∷ [])
 made-append address now [] load made h = (λ e. h, tt)
 made-append address now (first ∷ loads) load made h = (made.0, made-append address now loads load made.1 h)
 

@@ -1,5 +1,5 @@
 -- A station takes control by itself: an outside take at the last tick heard.
-use Rattle.std.proofs.Common.{◌≡◌, ℕ, suc, ◌<◌, ◌≤◌, Bool, true, false, ◌==◌, ◌&&◌, List, [], ◌∷◌, ◌++◌, length, Option, Some, None, refl, sym, ap, ◌∙◌, subst, arith, append_assoc, if◌then◌else◌}
+use Rattle.std.proofs.Common.{◌≡◌, ℕ, suc, ◌<◌, ◌≤◌, Bool, true, false, ◌==◌, List, [], ◌∷◌, ◌++◌, length, Option, Some, None, refl, sym, ap, ◌∙◌, subst, arith, append_assoc, if◌then◌else◌}
 use Rattle.std.specs.Prelude.{⊤}
 use Rattle.std.proofs.lemmas.Bool.Decides.{nat_tests}
 use Rattle.bus_base.specs.declared.samples.Pair.{Pair}
@@ -8,17 +8,13 @@ use Rattle.bus_model.specs.Memory.{TimedLoad}
 use Rattle.bus_model.specs.Hearing.{Hearing}
 use Rattle.bus_model.specs.Terminal.{accepted_now, memory_after}
 use Rattle.bus_model.specs.Course.{Take, Course, course, with_takes, take_control, run_on, runs_next}
-use Rattle.bus_model.specs.Control.{OutsideTake, StationSoFar, so_far, so_far_after, hold, serve, taken_over, takes_in, outside_takes, is_outside, accepted_take, hear_more, moment_of}
+use Rattle.bus_model.specs.Control.{OutsideTake, StationSoFar, so_far, so_far_after, hold, taken_over, takes_in, outside_takes, is_outside, accepted_take, hear_more, moment_of}
 use Rattle.bus_terminal.specs.Quiet.{quiet_moments}
-use Rattle.bus_terminal.specs.Stands.{AreMade}
 use Rattle.bus_terminal.specs.TerminalStands.{TerminalStands}
-use Rattle.bus_terminal.specs.declared.terminal.Terminal.{Terminal}
 use Rattle.bus_terminal.proofs.Standing.{by-test}
 use Rattle.bus_controller.specs.ControllerStands.{ControllerStands}
-use Rattle.bus_controller.specs.declared.controller.Controller.{Controller}
 use Rattle.bus_station.specs.StationStands.{AreTaken, Stands}
 use Rattle.bus_station.specs.declared.station.Station.{Station}
-use Rattle.bus_station.proofs.SoFar.{so_far-tick}
 use Rattle.bus_station.proofs.Serving.{sofar, before, so_far-served, took, took-stands}
 
 -- ---- takes of a tick give control in it
@@ -38,7 +34,8 @@ taken-holds take takes n c now =
     let here : (take.heard == n) ≡ true = grind (arith, nat_tests, now) in
     ap (λ (b : Bool). (with_takes takes n (if b then take_control take.first c else c)).holds) here ∙ holds-kept takes n (take_control take.first c) refl
 
-now-holds : (k : ℕ) (station : StationData) (starts : Bool) (takes : List Take) (take : Take) (more : List Take) (x : Pair) (past : List Pair) → take.heard ≡ suc (length past) →
+now-holds : (k : ℕ) (station : StationData) (starts : Bool) (takes : List Take) (take : Take) (more : List Take) (x : Pair) (past : List Pair) →
+    take.heard ≡ suc (length past) →
     (course k station starts (takes ++ take ∷ more) (x ∷ past)).holds ≡ true
 unfolding course
 now-holds k station starts takes take more x past now =
@@ -77,7 +74,8 @@ module _ (k : ℕ) (station : StationData) (starts : Bool) (loads : List TimedLo
   -- a station that serves on took nothing
   none-by : (outside : List OutsideTake) (x : Pair) (past : List Pair) (takes : List Take) → (before k station starts loads outside past).holds ≡ false →
       (before k station starts loads outside (x ∷ past)).holds ≡ false →
-      takes_in k station starts loads outside (length past) (hear_more (sofar k station starts loads outside past).hearing (moment_of x (before k station starts loads outside past))) ≡ takes →
+      takes_in k station starts loads outside (length past) (hear_more (sofar k station starts loads outside past).hearing
+      (moment_of x (before k station starts loads outside past))) ≡ takes →
       AreNow (suc (length past)) takes → takes ≡ []
   none-by outside x past [] off after is now = refl
   none-by outside x past (take ∷ takes) off after is now =
@@ -89,7 +87,8 @@ module _ (k : ℕ) (station : StationData) (starts : Bool) (loads : List TimedLo
 
   none-taken : (outside : List OutsideTake) (x : Pair) (past : List Pair) → (before k station starts loads outside past).holds ≡ false →
       (before k station starts loads outside (x ∷ past)).holds ≡ false →
-      takes_in k station starts loads outside (length past) (hear_more (sofar k station starts loads outside past).hearing (moment_of x (before k station starts loads outside past))) ≡ []
+      takes_in k station starts loads outside (length past) (hear_more (sofar k station starts loads outside past).hearing
+      (moment_of x (before k station starts loads outside past))) ≡ []
   none-taken outside x past off after =
       let hearing : Hearing = hear_more (sofar k station starts loads outside past).hearing (moment_of x (before k station starts loads outside past)) in
       none-by outside x past (takes_in k station starts loads outside (length past) hearing) off after refl (takes-now outside (length past) hearing)
@@ -103,7 +102,8 @@ module _ (k : ℕ) (station : StationData) (starts : Bool) (loads : List TimedLo
       let no : (take.tick == tick) ≡ false = grind (arith, nat_tests, later) in
       rw no refl
   later-outside outside take tick (first ∷ all) later =
-      ap (λ (takes : List Take). if is_outside k station starts loads outside tick first then record { heard = suc tick; first = first.first } ∷ takes else takes)
+      ap (λ (takes : List Take). if is_outside k station starts loads outside tick first then record { heard = suc tick; first = first.first } ∷ takes else
+      takes)
       (later-outside outside take tick all later)
 
   -- of this tick
@@ -115,11 +115,13 @@ module _ (k : ℕ) (station : StationData) (starts : Bool) (loads : List TimedLo
       let own : (station.terminal.address == station.terminal.address) ≡ true = grind (arith, nat_tests) in
       rw (now, own) refl
   this-outside outside tick first (other ∷ all) =
-      ap (λ (takes : List Take). if is_outside k station starts loads outside tick other then record { heard = suc tick; first = other.first } ∷ takes else takes)
+      ap (λ (takes : List Take). if is_outside k station starts loads outside tick other then record { heard = suc tick; first = other.first } ∷ takes else
+      takes)
       (this-outside outside tick first all)
       ∙ inside (is_outside k station starts loads outside tick other) (record { heard = suc tick; first = other.first })
       (outside_takes k station starts loads outside tick all) (record { heard = suc tick; first = first } ∷ []) where
-        inside : (b : Bool) (take : Take) (takes more : List Take) → (if b then take ∷ (takes ++ more) else takes ++ more) ≡ (if b then take ∷ takes else takes) ++ more
+        inside : (b : Bool) (take : Take) (takes more : List Take) → (if b then take ∷ (takes ++ more) else takes ++ more) ≡
+            (if b then take ∷ takes else takes) ++ more
         inside true take takes more = refl
         inside false take takes more = refl
 
@@ -129,7 +131,8 @@ module _ (k : ℕ) (station : StationData) (starts : Bool) (loads : List TimedLo
       let c : Course = course k station starts s.takes past in
       let hearing : Hearing = hear_more s.hearing (moment_of x c) in
       ap (λ (takes : List Take). if c.holds then hold k station starts loads outside x past s (course k station starts s.takes (x ∷ past))
-      else taken_over k station starts loads outside (x ∷ past) s hearing (accepted_take (length past) (accepted_now k station.terminal loads hearing) ++ takes))
+      else taken_over k station starts loads outside (x ∷ past) s hearing
+      (accepted_take (length past) (accepted_now k station.terminal loads hearing) ++ takes))
       (later-outside outside record { tick = tick; address = station.terminal.address; first = first } (length past) outside later)
 
   -- nothing before its tick changes
@@ -148,7 +151,8 @@ module _ (k : ℕ) (station : StationData) (starts : Bool) (loads : List TimedLo
   taken-append tick now first [] before taken = (λ _. before, tt)
   taken-append tick now first (take ∷ outside) before taken = (taken.0, taken-append tick now first outside before taken.1)
 
-  served-by : (outside : List OutsideTake) (x : Pair) (past : List Pair) (takes : List Take) (s : StationSoFar) → sofar k station starts loads outside past ≡ s →
+  served-by : (outside : List OutsideTake) (x : Pair) (past : List Pair) (takes : List Take) (s : StationSoFar) →
+      sofar k station starts loads outside past ≡ s →
       (course k station starts s.takes past).holds ≡ false →
       takes_in k station starts loads outside (length past) (hear_more s.hearing (moment_of x (course k station starts s.takes past))) ≡ takes →
       sofar k station starts loads outside (x ∷ past)
@@ -164,9 +168,17 @@ module _ (k : ℕ) (station : StationData) (starts : Bool) (loads : List TimedLo
       Stands k station starts loads outside old (x ∷ past) (sofar k station starts loads outside (x ∷ past)) →
       (before k station starts loads outside past).holds ≡ false → (before k station starts loads outside (x ∷ past)).holds ≡ false →
       suc (length past) ≤ first → new.address ≡ old.address → new.taking ≡ Some record { 0 = first } →
-      ControllerStands k station starts ((sofar k station starts loads outside (x ∷ past)).takes ++ record { heard = suc (length past); first = first } ∷ []) new.controller (x ∷ past) →
+      ControllerStands k station starts ((sofar k station starts loads outside (x ∷ past)).takes ++ record {
+        heard = suc
+            (length past);
+        first = first;
+      } ∷ []) new.controller (x ∷ past) →
       TerminalStands k station.terminal loads new.terminal
-      (record { memory = memory_after k station.terminal loads (sofar k station starts loads outside (x ∷ past)).hearing; ticks = quiet_moments (suc (length past)) }) →
+      (record {
+        memory = memory_after k station.terminal loads (sofar k station starts loads outside (x ∷ past)).hearing;
+        ticks = quiet_moments
+            (suc (length past));
+      }) →
       Stands k station starts loads (with-take station outside (length past) first) new (x ∷ past)
       (sofar k station starts loads (with-take station outside (length past) first) (x ∷ past))
   took-itself old new outside x past first st off after early address taking controller terminal =
@@ -176,15 +188,18 @@ module _ (k : ℕ) (station : StationData) (starts : Bool) (loads : List TimedLo
       let more : List OutsideTake = with-take station outside n first in
       let take : Take = record { heard = suc n; first = first } in
       let none : takes_in k station starts loads outside n hearing ≡ [] = none-taken outside x past off after in
-      let same : sofar k station starts loads outside (x ∷ past) ≡ record s { hearing = hearing } = so_far-served k station starts loads outside x past [] off none in
+      let same : sofar k station starts loads outside
+      (x ∷ past) ≡ record s { hearing = hearing } = so_far-served k station starts loads outside x past [] off none in
       let made : takes_in k station starts loads more n hearing ≡ take ∷ [] =
       ap (λ (takes : List Take). accepted_take n (accepted_now k station.terminal loads hearing) ++ takes) (this-outside more n first outside)
-      ∙ sym (append_assoc (accepted_take n (accepted_now k station.terminal loads hearing)) (outside_takes k station starts loads outside n outside) (take ∷ []))
+      ∙ sym (append_assoc (accepted_take n (accepted_now k station.terminal loads hearing)) (outside_takes k station starts loads outside n outside)
+      (take ∷ []))
       ∙ ap (λ (takes : List Take). takes ++ take ∷ []) none in
       let now : sofar k station starts loads more (x ∷ past) ≡ took k station starts loads more x past hearing first s =
       served-by more x past (take ∷ []) s (before-outside outside n first past (omega arith)) off made in
       subst (λ (t : StationSoFar). Stands k station starts loads more new (x ∷ past) t) (sym now)
       (took-stands k station starts loads more new x past s hearing first (address ∙ st.address) taking early
       (subst (λ (t : StationSoFar). ControllerStands k station starts (t.takes ++ take ∷ []) new.controller (x ∷ past)) same controller)
-      (subst (λ (t : StationSoFar). TerminalStands k station.terminal loads new.terminal (record { memory = memory_after k station.terminal loads t.hearing; ticks = quiet_moments (suc n) })) same terminal)
+      (subst (λ (t : StationSoFar). TerminalStands k station.terminal loads new.terminal
+      (record { memory = memory_after k station.terminal loads t.hearing; ticks = quiet_moments (suc n) })) same terminal)
       st.made (taken-append n (suc n) first outside (omega arith) st.taken))

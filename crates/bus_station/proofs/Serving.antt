@@ -1,27 +1,22 @@
 -- A tick of a station that serves.
-use Rattle.std.proofs.Common.{◌≡◌, ◌≢◌, ℕ, suc, ◌+◌, ◌<◌, ◌≤◌, Bool, true, false, ◌==◌, ◌&&◌, nat_le, List, [], ◌∷◌, ◌++◌, length, Option, Some, None, refl, sym, ap, ◌∙◌, subst, arith, if◌then◌else◌}
-use Rattle.std.proofs.lemmas.Bool.Decides.{nat_tests}
+use Rattle.std.proofs.Common.{◌≡◌, ◌≢◌, ℕ, suc, ◌+◌, ◌≤◌, Bool, true, false, nat_le, List, [], ◌∷◌, ◌++◌, length, Option, Some, None, refl, sym, ap, ◌∙◌, subst, if◌then◌else◌}
 use Rattle.std.proofs.lemmas.Bool.{le-leb}
 use Rattle.bus_base.specs.declared.samples.Channel.{Channel}
 use Rattle.bus_base.specs.declared.samples.Pair.{Pair}
-use Rattle.bus_base.specs.declared.samples.Tick.{Tick}
-use Rattle.bus_formats.specs.Plans.{StationData, TerminalData}
-use Rattle.bus_formats.specs.declared.log.Attempt.{Attempt}
+use Rattle.bus_formats.specs.Plans.{StationData}
 use Rattle.bus_model.specs.Memory.{TimedLoad}
 use Rattle.bus_model.specs.Orders.{Taken}
 use Rattle.bus_model.specs.Waits.{taking_over}
-use Rattle.bus_model.specs.Starts.{Entry, has_items}
 use Rattle.bus_model.specs.Hearing.{Moment, Hearing}
-use Rattle.bus_model.specs.Standing.{Standing}
-use Rattle.bus_model.specs.Terminal.{standing, order_now, took_now, accepted_now, accepted_on, memory_after}
+use Rattle.bus_model.specs.Terminal.{standing, order_now, took_now, accepted_now, memory_after}
 use Rattle.bus_model.specs.Course.{Take, Course, course, take_control}
-use Rattle.bus_model.specs.Control.{OutsideTake, StationSoFar, so_far, hold, serve, taken_over, takes_in, outside_takes, is_outside, accepted_take, hear_more, moment_of, unheard, unheard_ticks, taking_from}
+use Rattle.bus_model.specs.Control.{OutsideTake, StationSoFar, so_far, hold, serve, taken_over, takes_in, outside_takes, is_outside, accepted_take, hear_more, moment_of, unheard_ticks}
 use Rattle.bus_terminal.specs.Quiet.{quiet_moments}
 use Rattle.bus_terminal.specs.Stands.{AreMade, channel_of}
 use Rattle.bus_terminal.specs.TerminalStands.{TerminalStands}
 use Rattle.bus_terminal.specs.declared.terminal.Terminal.{Terminal}
 use Rattle.bus_terminal.specs.declared.state.TerminalEvent.{TerminalEvent}
-use Rattle.bus_controller.specs.ControllerStands.{ControllerStands, NoneLater}
+use Rattle.bus_controller.specs.ControllerStands.{ControllerStands}
 use Rattle.bus_controller.proofs.Wholes.{course-taken}
 use Rattle.bus_station.specs.Roles.{tick_of}
 use Rattle.bus_station.specs.Told.{attempts_told, delivery_told, delivery_of, ended_in, heard_newest, delivery_in, delivered_newest}
@@ -29,7 +24,6 @@ use Rattle.bus_station.specs.Hears.{HeardBy}
 use Rattle.bus_station.specs.StationStands.{AreTaken, taking_of, Stands, StationStands, AfterTick}
 use Rattle.bus_station.specs.declared.station.Station.{Station}
 use Rattle.bus_station.specs.declared.event.StationEvent.{StationEvent}
-use Rattle.bus_station.specs.declared.event.StationEvent.TheVariants as events
 use Rattle.bus_station.proofs.Courses.{serves-more, ended-before, none-told}
 use Rattle.bus_station.proofs.Quiet.{unheard-quiet}
 use Rattle.bus_station.proofs.Offers.{accepted-owed, some-left}
@@ -59,7 +53,8 @@ module _ (k : ℕ) (station : StationData) (starts : Bool) (loads : List TimedLo
       let no : is_outside k station starts loads outside tick take ≡ false = not-outside take.address station.terminal.address take.tick tick taken.0 in
       rw no (none-outside tick all taken.1)
 
-  pub takes-accepted : (tick : ℕ) (hearing : Hearing) (end : Option ℕ) → AreTaken station.terminal.address tick outside → accepted_now k station.terminal loads hearing ≡ end →
+  pub takes-accepted : (tick : ℕ) (hearing : Hearing) (end : Option ℕ) → AreTaken station.terminal.address tick outside →
+      accepted_now k station.terminal loads hearing ≡ end →
       takes_in k station starts loads outside tick hearing ≡ accepted_take tick end ++ []
   takes-accepted tick hearing end taken is =
       ap (λ (o : Option ℕ). accepted_take tick o ++ outside_takes k station starts loads outside tick outside) is
@@ -83,7 +78,8 @@ module _ (k : ℕ) (station : StationData) (starts : Bool) (loads : List TimedLo
       let h : Hearing = (sofar past).hearing in
       let now : Moment = moment_of x (before past) in
       let same : heard_newest k station starts loads outside x past ≡ now = rw off refl in
-      let c : Channel = channel_of (standing k station.terminal loads h.memory h.ticks) (order_now k station.terminal (now ∷ h.ticks) (standing k station.terminal loads h.memory h.ticks)) in
+      let c : Channel = channel_of (standing k station.terminal loads h.memory h.ticks) (order_now k station.terminal (now ∷ h.ticks)
+      (standing k station.terminal loads h.memory h.ticks)) in
       let taken : Option Taken = took_now k station.terminal loads (hear_more h now) in
       taken-told event (length past) c taken heard.took
       ∙ ap (λ (tick : ℕ). delivery_of tick c taken) (sym (keeps k station starts loads outside past).long)
@@ -134,13 +130,18 @@ module _ (k : ℕ) (station : StationData) (starts : Bool) (loads : List TimedLo
   pub took-stands : (new : Station) (x : Pair) (past : List Pair) (s : StationSoFar) (hearing : Hearing) (first : ℕ) → new.address ≡ station.terminal.address →
       new.taking ≡ Some record { 0 = first } → suc (length past) ≤ first →
       ControllerStands k station starts (s.takes ++ record { heard = suc (length past); first = first } ∷ []) new.controller (x ∷ past) →
-      TerminalStands k station.terminal loads new.terminal (record { memory = memory_after k station.terminal loads hearing; ticks = quiet_moments (suc (length past)) }) →
+      TerminalStands k station.terminal loads new.terminal (record {
+        memory = memory_after k station.terminal loads hearing;
+        ticks = quiet_moments
+            (suc (length past));
+      }) →
       AreMade station.terminal.address (suc (length past)) loads → AreTaken station.terminal.address (suc (length past)) outside →
       Stands k station starts loads outside new (x ∷ past) (took x past hearing first s)
   took-stands new x past s hearing first address taking early controller terminal made taken = record {
     address = address;
     controller = controller;
-    terminal = subst (λ (ticks : List Moment). TerminalStands k station.terminal loads new.terminal (record { memory = memory_after k station.terminal loads hearing; ticks = ticks }))
+    terminal = subst (λ (ticks : List Moment). TerminalStands k station.terminal loads new.terminal
+        (record { memory = memory_after k station.terminal loads hearing; ticks = ticks }))
         (sym (unheard-quiet (x ∷ past))) terminal;
     taking = taking ∙ sym (ap (λ (c : Course). tick_of (taking_of (suc (length past)) c)) (course-taken k station starts s.takes first (x ∷ past))
         ∙ ap tick_of (on-taking (suc (length past)) first (course k station starts s.takes (x ∷ past)) early));
@@ -150,11 +151,16 @@ module _ (k : ℕ) (station : StationData) (starts : Bool) (loads : List TimedLo
 
   pub took-over : (old new : Station) (event : TerminalEvent) (told : StationEvent) (x : Pair) (past : List Pair) (terminal : Terminal) (end first : ℕ) →
       Stands k station starts loads outside old past (sofar past) → (before past).holds ≡ false →
-      accepted_now k station.terminal loads (hear_more (sofar past).hearing (moment_of x (before past))) ≡ Some end → first ≡ end + taking_over → suc (length past) ≤ first →
+      accepted_now k station.terminal loads (hear_more (sofar past).hearing (moment_of x (before past))) ≡ Some end → first ≡ end + taking_over →
+      suc (length past) ≤ first →
       ControllerStands k station starts ((sofar past).takes ++ record { heard = suc (length past); first = first } ∷ []) new.controller (x ∷ past) →
       HeardBy k station.terminal loads terminal event (length past) (sofar past).hearing (moment_of x (before past)) →
       TerminalStands k station.terminal loads new.terminal
-      (record { memory = memory_after k station.terminal loads (hear_more (sofar past).hearing (moment_of x (before past))); ticks = quiet_moments (suc (length past)) }) →
+      (record {
+        memory = memory_after k station.terminal loads (hear_more (sofar past).hearing (moment_of x (before past)));
+        ticks = quiet_moments
+            (suc (length past));
+      }) →
       new.address ≡ old.address → new.taking ≡ Some record { 0 = first } → attempts_told told ≡ [] → delivery_told told ≡ delivery_heard event →
       AfterTick k station starts loads outside new told x past
   unfolding StationStands
@@ -187,4 +193,5 @@ module _ (k : ℕ) (station : StationData) (starts : Bool) (loads : List TimedLo
       let kept = keeps k station starts loads outside past in
       let hearing : Hearing = (sofar past).hearing in
       some-left (before past).left (kept.offers off
-      (accepted-owed k station.terminal loads (moment_of x (before past)) hearing.ticks (standing k station.terminal loads hearing.memory hearing.ticks) end accepted))
+      (accepted-owed k station.terminal loads (moment_of x (before past)) hearing.ticks
+      (standing k station.terminal loads hearing.memory hearing.ticks) end accepted))

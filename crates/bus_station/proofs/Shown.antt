@@ -3,13 +3,12 @@ use Rattle.std.proofs.Common.{◌≡◌, ℕ, Bool, true, false, not, List, leng
 use Rattle.bus_base.specs.declared.samples.Pair.{Pair}
 use Rattle.bus_base.specs.declared.samples.Tick.{Tick}
 use Rattle.bus_formats.specs.Plans.{StationData}
-use Rattle.bus_model.specs.Course.{Take, Course}
+use Rattle.bus_model.specs.Course.{Take}
 use Rattle.bus_controller.specs.Moments.{ReceiverStands}
 use Rattle.bus_controller.specs.ControllerStands.{ControllerStands}
 use Rattle.bus_controller.specs.declared.controller.Controller.{Controller}
 use Rattle.bus_station.specs.Roles.{tick_of, role_by}
-use Rattle.bus_station.specs.declared.role.Role.{Role}
-use Rattle.bus_station.specs.declared.role.Role.TheVariants.{Controlling, Taking, Serving}
+use Rattle.bus_station.specs.declared.role.Role.TheVariants.{Controlling, Taking}
 
 -- a station that has no control
 pub serves : (b h : Bool) → b ≡ not h → b ≡ true → h ≡ false

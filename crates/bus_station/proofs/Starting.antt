@@ -1,5 +1,5 @@
 -- A station that has heard nothing.
-use Rattle.std.proofs.Common.{◌≡◌, ℕ, Bool, true, false, [], None, refl, sym, ap, ◌∙◌, subst, if◌then◌else◌}
+use Rattle.std.proofs.Common.{◌≡◌, ℕ, Bool, true, false, [], None, refl, ap, ◌∙◌, subst}
 use Rattle.bus_formats.specs.Plans.{StationData, TerminalData}
 use Rattle.bus_model.specs.Memory.{first_memory}
 use Rattle.bus_model.specs.Course.{course}
@@ -16,8 +16,10 @@ unfolding course
 no-taking k plan true = refl
 no-taking k plan false = refl
 
-pub begins : (k : ℕ) (plan : StationData) (starts : Bool) (new : Station) (terminal : TerminalData) → terminal ≡ plan.terminal → new.address ≡ terminal.address →
-    ControllerStands k plan starts [] new.controller [] → TerminalStands k terminal [] new.terminal (record { memory = first_memory terminal; ticks = [] }) → new.taking ≡ None →
+pub begins : (k : ℕ) (plan : StationData) (starts : Bool) (new : Station) (terminal : TerminalData) → terminal ≡ plan.terminal →
+    new.address ≡ terminal.address →
+    ControllerStands k plan starts [] new.controller [] → TerminalStands k terminal [] new.terminal
+    (record { memory = first_memory terminal; ticks = [] }) → new.taking ≡ None →
     StationStands k plan starts [] [] new []
 unfolding StationStands so_far
 begins k plan starts new terminal same address controller heard none = record {

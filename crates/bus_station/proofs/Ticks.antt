@@ -1,10 +1,9 @@
 -- What was made so far, and what a terminal tells of a tick.
-use Rattle.std.proofs.Common.{◌≡◌, ℕ, suc, ◌+◌, ◌<◌, Bool, true, false, ◌==◌, ◌&&◌, nat_le, List, [], ◌∷◌, length, Option, Some, None, refl, sym, ap, ◌∙◌, subst, arith, inl, inr}
+use Rattle.std.proofs.Common.{◌≡◌, ℕ, suc, ◌+◌, ◌<◌, Bool, true, false, ◌==◌, ◌&&◌, nat_le, List, [], ◌∷◌, length, Option, Some, None, refl, ◌∙◌, arith, inl, inr}
 use Rattle.std.specs.Prelude.{is_some}
 use Rattle.std.proofs.lemmas.Bool.{cases_Bool, eqb-true}
 use Rattle.std.proofs.lemmas.Bool.Decides.{nat_tests}
 use Rattle.bus_base.specs.declared.samples.Channel.{Channel}
-use Rattle.bus_base.specs.declared.samples.Pair.{Pair}
 use Rattle.bus_base.specs.declared.samples.Sample.{Sample}
 use Rattle.bus_line.specs.Past.{Burst, ended_now, end_of}
 use Rattle.bus_formats.specs.Plans.{TerminalData}
@@ -13,9 +12,9 @@ use Rattle.bus_model.specs.Memory.{TimedLoad}
 use Rattle.bus_model.specs.Orders.{Duty, free, owes, promises, Taken, due_after}
 use Rattle.bus_model.specs.Hearing.{Moment, Hearing, heard_on}
 use Rattle.bus_model.specs.Standing.{Standing}
-use Rattle.bus_model.specs.Terminal.{standing, order_now, took_now, accepted_now, accepted_by, heard_status, given_up}
+use Rattle.bus_model.specs.Terminal.{standing, accepted_now, accepted_by, heard_status, given_up}
 use Rattle.bus_model.specs.Control.{OutsideTake, hear_more}
-use Rattle.bus_terminal.specs.Stands.{AreMade, TakenIs, AcceptedIs, channel_of}
+use Rattle.bus_terminal.specs.Stands.{AreMade, TakenIs, AcceptedIs}
 use Rattle.bus_terminal.specs.declared.state.TerminalEvent.{TerminalEvent}
 use Rattle.bus_terminal.specs.declared.state.TerminalEvent.TheVariants as heards
 use Rattle.bus_terminal.proofs.Ends.{ended-place}
@@ -54,7 +53,8 @@ delivery_heard (heards.Took delivery) = Some delivery
 delivery_heard _ = None
 
 -- it tells the block that was taken
-pub taken-told : (event : TerminalEvent) (tick : ℕ) (c : Channel) (taken : Option Taken) → TakenIs event tick c taken → delivery_heard event ≡ delivery_of tick c taken
+pub taken-told : (event : TerminalEvent) (tick : ℕ) (c : Channel) (taken : Option Taken) → TakenIs event tick c taken →
+    delivery_heard event ≡ delivery_of tick c taken
 taken-told heards.Nothing tick c taken h = rw h refl
 taken-told heards.Accepted tick c taken h = rw h refl
 taken-told (heards.Took delivery) tick c taken h = rw (h.2, ← h.1, ← h.0) refl
@@ -74,7 +74,8 @@ some-end (Some n) h = (n, refl)
 status-end : (due : ℕ) (o : Option Burst) (end : ℕ) → heard_status due o ≡ Some end → (burst : Burst) × (o ≡ Some burst) × (end_of burst ≡ end)
 status-end due None end h = absurd (cc)
 status-end due (Some burst) end h =
-    by-test (λ (r : Option ℕ). r ≡ Some end → (b : Burst) × (Some burst ≡ Some b) × (end_of b ≡ end)) ((burst.first == due) && nat_le 40 burst.ticks) (Some (end_of burst)) None
+    by-test (λ (r : Option ℕ). r ≡ Some end → (b : Burst) × (Some burst ≡ Some b) × (end_of b ≡ end)) ((burst.first == due) && nat_le 40 burst.ticks)
+    (Some (end_of burst)) None
     (λ _ is. (burst, refl, (let same : end_of burst ≡ end = cc in same))) (λ _ is. absurd (cc)) h
 
 accepted-end-by : (k : ℕ) (t : TerminalData) (loads : List TimedLoad) (past : List Sample) (x : Sample) (s : Standing) (d : Duty) (end : ℕ) →

@@ -11,7 +11,8 @@ use Rattle.bus_terminal.specs.declared.terminal.Terminal.{Terminal}
 use Rattle.bus_terminal.specs.declared.state.TerminalEvent.{TerminalEvent}
 
 -- it stands for one tick more, and told the block that it took, or that it accepted control
-pub record HeardBy (k : ℕ) (t : TerminalData) (loads : List TimedLoad) (terminal : Terminal) (event : TerminalEvent) (tick : ℕ) (hearing : Hearing) (now : Moment) : Type 0 where
+pub record HeardBy (k : ℕ) (t : TerminalData) (loads : List TimedLoad) (terminal : Terminal) (event : TerminalEvent) (tick : ℕ) (hearing : Hearing)
+    (now : Moment) : Type 0 where
   pub stands : TerminalStands k t loads terminal (hear_more hearing now)
   pub took : TakenIs event tick
       (channel_of (standing k t loads hearing.memory hearing.ticks)

@@ -22,7 +22,8 @@ AreTaken address now (take ∷ takes) = (take.address ≡ address → take.tick 
 abbrev pub taking_of : ℕ → Course → Option ℕ
 taking_of tick c = if c.holds then taking_from tick c.opening else None
 
-pub record Stands (k : ℕ) (station : StationData) (starts : Bool) (loads : List TimedLoad) (outside : List OutsideTake) (value : Station) (past : List Pair) (s : StationSoFar) : Type 0 where
+pub record Stands (k : ℕ) (station : StationData) (starts : Bool) (loads : List TimedLoad) (outside : List OutsideTake) (value : Station)
+    (past : List Pair) (s : StationSoFar) : Type 0 where
   pub address : value.address ≡ station.terminal.address
   pub controller : ControllerStands k station starts s.takes value.controller past
   pub terminal : TerminalStands k station.terminal loads value.terminal s.hearing
@@ -35,7 +36,8 @@ unfoldable pub StationStands : ℕ → StationData → Bool → List TimedLoad �
 StationStands k station starts loads outside value past = Stands k station starts loads outside value past (so_far k station starts loads outside past)
 
 -- a station after one tick more, and what it told of that tick
-pub record AfterTick (k : ℕ) (station : StationData) (starts : Bool) (loads : List TimedLoad) (outside : List OutsideTake) (value : Station) (event : StationEvent) (shown : Pair) (past : List Pair) : Type 0 where
+pub record AfterTick (k : ℕ) (station : StationData) (starts : Bool) (loads : List TimedLoad) (outside : List OutsideTake) (value : Station)
+    (event : StationEvent) (shown : Pair) (past : List Pair) : Type 0 where
   pub stands : StationStands k station starts loads outside value (shown ∷ past)
   pub ended : attempts_told event ≡ ended_newest k station starts loads outside (shown ∷ past)
   pub took : delivery_told event ≡ delivered_newest k station starts loads outside (shown ∷ past)

@@ -188,10 +188,13 @@ impl Station {
             × (length hearing.ticks ≡ now.0) × (now.0 < 2 ^ 60) }
         ensures address { self.new.address ≡ self.old.address }
         ensures controller { self.new.controller ≡ self.old.controller }
-        ensures terminal { (plan : TerminalData) (loads : List TimedLoad) (hearing : Hearing) (station : StationData) (starts : Bool) (takes : List Take) (past : List Pair) →
-            TerminalStands LAG plan loads self.old.terminal hearing → length hearing.ticks ≡ now.0 → ControllerStands LAG station starts takes self.old.controller past →
+        ensures terminal { (plan : TerminalData) (loads : List TimedLoad) (hearing : Hearing) (station : StationData) (starts : Bool) (takes : List Take)
+            (past : List Pair) →
+            TerminalStands LAG plan loads self.old.terminal hearing → length hearing.ticks ≡ now.0 →
+            ControllerStands LAG station starts takes self.old.controller past →
             TerminalStands LAG plan loads self.new.terminal
-            (control.hear_more hearing (if control.is_yielded outcome then control.moment_of heard (course LAG station starts takes past) else control.unheard)) }
+            (control.hear_more hearing (if control.is_yielded outcome then control.moment_of heard
+            (course LAG station starts takes past) else control.unheard)) }
     {
         if is_yielded(outcome) {
             let may_accept = has_items(&self.controller);
@@ -235,6 +238,14 @@ impl Station {
         self.controller.is_yielded() || self.controller.is_idle()
     }
 
+    /// How many items are left: those of which no attempt was the last.
+    pub fn items_left(&self) -> u32
+        ensures { (plan : StationData) (starts : Bool) (loads : List TimedLoad) (outside : List OutsideTake) (past : List Pair) →
+            StationStands LAG plan starts loads outside self.now past → result ≡ length (course_after LAG plan starts loads outside past).left }
+    {
+        self.controller.items_left()
+    }
+
     /// Its terminal.
     pub fn terminal(&self) -> &Terminal
         ensures { (plan : StationData) (starts : Bool) (loads : List TimedLoad) (outside : List OutsideTake) (past : List Pair) →
@@ -269,8 +280,10 @@ impl Station {
             × ((course_after LAG plan starts loads outside (shown ∷ past)).left ≢ []) × (length past < first.0) }
         ensures { (plan : StationData) (starts : Bool) (loads : List TimedLoad) (outside : List OutsideTake) (shown : Pair) (past : List Pair) →
             StationStands LAG plan starts loads outside self.old (shown ∷ past) →
-            holds_control LAG plan starts loads outside past ≡ false → holds_control LAG plan starts loads outside (shown ∷ past) ≡ false → length past < first.0 →
-            StationStands LAG plan starts loads (outside ++ record { tick = length past; address = plan.terminal.address; first = first.0 } ∷ []) self.new (shown ∷ past) }
+            holds_control LAG plan starts loads outside past ≡ false → holds_control LAG plan starts loads outside (shown ∷ past) ≡ false →
+            length past < first.0 →
+            StationStands LAG plan starts loads (outside ++ record { tick = length past; address = plan.terminal.address; first = first.0 } ∷ []) self.new
+            (shown ∷ past) }
     {
         self.take_over(first);
     }

@@ -1,4 +1,4 @@
-use Rattle.std.proofs.Common.{◌≡◌, ℕ, Bool, ◌<◌, ◌∷◌, length, sym, ◌∙◌, subst, arith}
+use Rattle.std.proofs.Common.{ℕ, Bool, length, sym, ◌∙◌, subst, arith}
 use Rattle.bus_line.specs.declared.cutter.TheConstants.{LAG}
 use Rattle.bus_station.specs.Hears.{HeardBy}
 use Rattle.bus_station.specs.StationStands.{StationStands}

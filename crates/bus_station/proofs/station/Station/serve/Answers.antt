@@ -1,4 +1,4 @@
-use Rattle.std.proofs.Common.{◌≡◌, ℕ, suc, ◌∷◌, length, refl, sym, ap, ◌∙◌, subst, arith}
+use Rattle.std.proofs.Common.{◌≡◌, suc, ◌∷◌, length, refl, sym, ap, ◌∙◌, subst, arith}
 use Rattle.bus_line.specs.declared.cutter.TheConstants.{LAG}
 use Rattle.bus_model.specs.Course.{Course}
 use Rattle.bus_model.specs.Terminal.{accepted_now}
@@ -24,8 +24,10 @@ take_over-requires c =
     let (plan, starts, loads, outside, past, st, off, here, small) = c.requires in
     let heard = c.listen.ensures.terminal plan starts loads outside past st here in
     let (end, accepted) = some-end _ (subst (λ (e : TerminalEvent). AcceptedIs e (accepted_now LAG plan.terminal loads
-    (hear_more (sofar LAG plan starts loads outside past).hearing (moment_of c.args.heard (before LAG plan starts loads outside past))))) c.in-Accepted.is heard.accepted) in
-    let same = serves-more LAG plan starts (sofar LAG plan starts loads outside past).takes c.args.heard past (keeps LAG plan starts loads outside past).later off in (
+    (hear_more (sofar LAG plan starts loads outside past).hearing
+    (moment_of c.args.heard (before LAG plan starts loads outside past))))) c.in-Accepted.is heard.accepted) in
+    let same = serves-more LAG plan starts (sofar LAG plan starts loads outside past).takes c.args.heard past
+    (keeps LAG plan starts loads outside past).later off in (
       plan,
       starts,
       (sofar LAG plan starts loads outside past).takes,
@@ -60,11 +62,13 @@ returns-in-Accepted c = λ plan starts loads outside past st off here.
     let kept = keeps LAG plan starts loads outside past in
     let heard = c.listen.ensures.terminal plan starts loads outside past st here in
     let (end, accepted) = some-end _ (subst (λ (e : TerminalEvent). AcceptedIs e (accepted_now LAG plan.terminal loads
-    (hear_more (sofar LAG plan starts loads outside past).hearing (moment_of c.args.heard (before LAG plan starts loads outside past))))) c.in-Accepted.is heard.accepted) in
+    (hear_more (sofar LAG plan starts loads outside past).hearing
+    (moment_of c.args.heard (before LAG plan starts loads outside past))))) c.in-Accepted.is heard.accepted) in
     let same = serves-more LAG plan starts (sofar LAG plan starts loads outside past).takes c.args.heard past kept.later off in
     let known = accepted-end LAG plan.terminal loads (moment_of c.args.heard (before LAG plan starts loads outside past))
     (sofar LAG plan starts loads outside past).hearing end accepted in
-    took-over LAG plan starts loads outside c.args.self.now c.take_over.new.self c.listen.result _ c.args.heard past _ end c.first_command.result.0 st off accepted
+    took-over LAG plan starts loads outside c.args.self.now c.take_over.new.self c.listen.result _ c.args.heard past _ end c.first_command.result.0 st off
+    accepted
     (omega (arith, known, kept.long, here, c.first_command.ensures)) (omega (arith, here, c.first_command.ensures))
     (c.take_over.ensures.controller plan starts (sofar LAG plan starts loads outside past).takes (c.args.heard ∷ past)
     (c.listen.ensures.controller plan starts (sofar LAG plan starts loads outside past).takes past st.controller)

@@ -16,5 +16,6 @@ unfolding StationStands
 returns c = λ plan starts loads outside shown past st off after early.
     took-itself LAG plan starts loads c.args.self.now c.take_over.new.self outside shown past c.args.first.0 st off after (omega (arith, early))
     c.take_over.ensures.address c.take_over.ensures.taking
-    (c.take_over.ensures.controller plan starts (sofar LAG plan starts loads outside (shown ∷ past)).takes (shown ∷ past) st.controller after (omega (arith, early)))
+    (c.take_over.ensures.controller plan starts (sofar LAG plan starts loads outside (shown ∷ past)).takes (shown ∷ past) st.controller after
+    (omega (arith, early)))
     (c.take_over.ensures.terminal plan.terminal loads (sofar LAG plan starts loads outside (shown ∷ past)).hearing (suc (length past)) st.terminal st.made)
