@@ -1,0 +1,9 @@
+pub mod Named
+pub mod NewestLaws
+pub mod LastLaws
+pub mod FoundLaws
+pub mod TransmitterLaws
+pub mod ShownLaws
+pub mod SideLaws
+pub mod OnLaws
+pub mod StationLaws

@@ -1,0 +1,5 @@
+pub mod Newest
+pub mod Steps
+pub mod Stands
+pub mod Sides
+pub mod WireStands

@@ -1,0 +1,112 @@
+//! One channel with the transmitters of all stations.
+ghost use Rattle.std.specs.Prelude.{◌≡◌, ◌<◌, ◌≤◌, ◌^◌, List, ◌∷◌, length};
+ghost use Rattle.bus_base.specs.Samples.{other_of};
+ghost use Rattle.bus_base.specs.declared.samples.Drive.{Drive};
+ghost use Rattle.bus_model.specs.Wire.{samples_on};
+ghost use Rattle.bus_wire.specs.Newest.{newest, by_any};
+ghost use Rattle.bus_wire.specs.Sides.{SideFits, SideFollows, SideStands, IsUnsent, Shows, with_shown};
+
+use crate::transmitter::{Driven, Transmitter};
+use bus_base::{Channel, Drive, Sample};
+use bus_formats::Fault;
+
+/// The most stations of a bus.
+pub const MOST_STATIONS: usize = 32;
+
+/// One channel.
+#[derive(Drop)]
+pub struct Side {
+    // the transmitters of the stations, in the order of the plan
+    transmitters: [Transmitter; 32],
+    // the newest tick in which any station drove the channel
+    driven: Option<u64>,
+}
+
+/// What a channel shows in a tick, and how many stations count as driving it.
+#[derive(Clone, Copy)]
+pub struct OnChannel {
+    pub sample: Sample,
+    pub drivers: u8,
+}
+
+impl OnChannel {
+    // One station more, which is later in their order.
+    fn with(self, shown: Option<Sample>) -> OnChannel
+        requires { self.drivers < 255 }
+        ensures { result ≡ with_shown self shown }
+    {
+        match shown {
+            None => self,
+            Some(sample) => OnChannel {
+                sample: if self.drivers == 0 {
+                    sample
+                } else {
+                    self.sample
+                },
+                drivers: self.drivers + 1,
+            },
+        }
+    }
+}
+
+impl Side {
+    /// A channel that nobody drove yet.
+    pub fn new() -> Side
+        ensures { IsUnsent result }
+    {
+        Side {
+            transmitters: [Transmitter::new(); 32],
+            driven: None,
+        }
+    }
+
+    /// The newest tick in which any station drove the channel.
+    pub fn driven(&self) -> Option<u64>
+        ensures { result ≡ self.now.driven }
+    {
+        self.driven
+    }
+
+    /// A station drives the channel. So many transmissions of commands have begun before; it answers how many have then.
+    pub fn follow(
+        &mut self,
+        station: usize,
+        faults: &[Fault],
+        commands: u128,
+        driven: Driven,
+    ) -> u128
+        requires station { station < 32 }
+        requires few { commands < 2 ^ 100 }
+        requires fits { SideFits faults.now self.old }
+        ensures { SideFollows faults.now station commands driven self.old self.new result }
+    {
+        self.driven = Some(driven.tick);
+        self.transmitters[station].follow(faults, commands, driven)
+    }
+
+    /// What this channel shows in this tick, the newest, of what the stations drive: the first station in their order that counts as driving
+    /// it. `other` is the newest tick in which any station drove the other channel.
+    pub fn shown(
+        &self,
+        channel: Channel,
+        faults: &[Fault],
+        tick: u64,
+        other: Option<u64>,
+        drives: &[Drive],
+    ) -> OnChannel
+        requires few { length drives.now ≤ 32 }
+        requires stands { (before : List (List Drive)) × SideStands faults.now channel self.now (drives.now ∷ before)
+            × (tick ≡ length before) × (other ≡ newest (by_any (other_of channel)) (drives.now ∷ before)) }
+        ensures { (before : List (List Drive)) → SideStands faults.now channel self.now (drives.now ∷ before) → tick ≡ length before →
+            other ≡ newest (by_any (other_of channel)) (drives.now ∷ before) → Shows (samples_on faults.now channel (drives.now ∷ before)) result }
+    {
+        let mut on = OnChannel {
+            sample: Sample::Quiet,
+            drivers: 0,
+        };
+        for (station, drive) in drives.iter().enumerate() {
+            on = on.with(self.transmitters[station].shown(channel, faults, tick, other, *drive));
+        }
+        on
+    }
+}

@@ -1,0 +1,135 @@
+//! The wire. It keeps no list of what was driven: for each station and channel it keeps the newest transmission.
+ghost use Rattle.std.specs.Prelude.{◌≡◌, ◌<◌, ◌≤◌, ◌^◌, ◌+◌, List, [], ◌∷◌, length, slice_get, Some};
+ghost use Rattle.bus_base.specs.declared.samples.Channel.TheVariants.{A, B};
+ghost use Rattle.bus_base.specs.declared.samples.Drive.{Drive};
+ghost use Rattle.bus_formats.specs.declared.fault.Fault.{Fault};
+ghost use Rattle.bus_model.specs.Wire as spec;
+ghost use Rattle.bus_wire.specs.Sides.{Shows};
+ghost use Rattle.bus_wire.specs.WireStands.{WireStands, FollowsTo};
+
+use crate::side::{OnChannel, Side};
+use crate::transmitter::Driven;
+use bus_base::{Channel, Drive, Pair};
+use bus_formats::Fault;
+
+/// What the channels show in a tick, and how many stations count as driving A and B: those that drive it, and those whose words of an
+/// extra are shown there. With two or more the tick is a clash.
+#[derive(Clone, Copy, Debug, PartialEq, Eq)]
+pub struct Shown {
+    pub pair: Pair,
+    pub drivers: [u8; 2],
+}
+
+/// The wire between the stations of a bus, with the faults of a plan. It stands for every list of faults and of what was driven that are
+/// told to it: the list of what was driven has a list of drives for each tick, the newest first, with a drive for each station.
+#[derive(Drop)]
+pub struct Wire {
+    faults: Vec<Fault>,
+    // the number of the tick to come
+    next: u64,
+    // the transmissions of commands that have begun
+    commands: u128,
+    a: Side,
+    b: Side,
+}
+
+impl Wire {
+    /// A wire on which nothing was driven yet, with these faults.
+    pub fn new(faults: Vec<Fault>) -> Wire
+        ensures { WireStands faults.items result [] }
+    {
+        Wire {
+            faults,
+            next: 0,
+            commands: 0,
+            a: Side::new(),
+            b: Side::new(),
+        }
+    }
+
+    /// Shows what the stations, at most 32, drive in the tick to come. The drives stand in the order of the plan. Where several stations drive a
+    /// channel, the first of them is shown; a channel that nobody drives is quiet. It takes no memory.
+    pub fn show(&mut self, drives: &[Drive]) -> Shown
+        requires few { length drives.now ≤ 32 }
+        requires stands { (faults : List Fault) × (driven : List (List Drive)) × WireStands faults self.old driven × (length driven < 2 ^ 60) }
+        ensures stands { (faults : List Fault) (driven : List (List Drive)) → WireStands faults self.old driven →
+            WireStands faults self.new (drives.now ∷ driven) }
+        ensures pair { (faults : List Fault) (driven : List (List Drive)) → WireStands faults self.old driven →
+            result.pair ≡ spec.shown faults (drives.now ∷ driven) }
+        ensures drivers { (faults : List Fault) (driven : List (List Drive)) → WireStands faults self.old driven →
+            result.drivers ≡ spec.drivers faults A (drives.now ∷ driven) ∷ spec.drivers faults B (drives.now ∷ driven) ∷ [] }
+    {
+        self.follow(drives);
+        let a = self.on(Channel::A, drives);
+        let b = self.on(Channel::B, drives);
+        Shown {
+            pair: Pair {
+                a: a.sample,
+                b: b.sample,
+            },
+            drivers: [a.drivers, b.drivers],
+        }
+    }
+
+    // Keeps what the stations drive in the tick to come.
+    fn follow(&mut self, drives: &[Drive])
+        requires few { length drives.now ≤ 32 }
+        requires stands { (faults : List Fault) × (driven : List (List Drive)) × WireStands faults self.old driven × (length driven < 2 ^ 60) }
+        ensures { (faults : List Fault) (driven : List (List Drive)) → WireStands faults self.old driven →
+            WireStands faults self.new (drives.now ∷ driven) }
+    {
+        for (station, drive) in drives.iter().enumerate() {
+            self.follow_station(station, *drive);
+        }
+        self.next += 1;
+    }
+
+    // Keeps what one station drives in the tick to come, after the stations before it in their order.
+    fn follow_station(&mut self, station: usize, drive: Drive)
+        requires station { station < 32 }
+        requires tick { (faults : List Fault) × (driven : List (List Drive)) × (drives : List Drive) × FollowsTo faults driven drives station self.old
+            × (slice_get drives station ≡ Some drive) × (length driven < 2 ^ 60) }
+        ensures { (faults : List Fault) (driven : List (List Drive)) (drives : List Drive) → FollowsTo faults driven drives station self.old →
+            slice_get drives station ≡ Some drive → FollowsTo faults driven drives (station + 1) self.new }
+    {
+        if let Drive::On {
+            channel,
+            part,
+            last,
+            ..
+        } = drive
+        {
+            let driven = Driven {
+                tick: self.next,
+                part,
+                last,
+            };
+            match channel {
+                Channel::A => {
+                    self.commands = self.a.follow(station, &self.faults, self.commands, driven);
+                }
+                Channel::B => {
+                    self.commands = self.b.follow(station, &self.faults, self.commands, driven);
+                }
+            }
+        }
+    }
+
+    // What a channel shows in the newest tick, in which the stations drive this.
+    fn on(&self, channel: Channel, drives: &[Drive]) -> OnChannel
+        requires few { length drives.now ≤ 32 }
+        requires stands { (faults : List Fault) × (driven : List (List Drive)) × WireStands faults self.now (drives.now ∷ driven) }
+        ensures { (faults : List Fault) (driven : List (List Drive)) → WireStands faults self.now (drives.now ∷ driven) →
+            Shows (spec.samples_on faults channel (drives.now ∷ driven)) result }
+    {
+        let tick = self.next - 1;
+        match channel {
+            Channel::A => self
+                .a
+                .shown(channel, &self.faults, tick, self.b.driven(), drives),
+            Channel::B => self
+                .b
+                .shown(channel, &self.faults, tick, self.a.driven(), drives),
+        }
+    }
+}
