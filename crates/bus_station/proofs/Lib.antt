@@ -1,0 +1,4 @@
+pub mod Courses
+pub mod Quiet
+pub mod Offers
+pub mod SoFar

@@ -1,0 +1,36 @@
+-- For which histories a station stands.
+use Rattle.std.specs.Prelude.{◌≡◌, ℕ, ◌<◌, Bool, List, [], ◌∷◌, length, ⊤}
+use Rattle.bus_base.specs.declared.samples.Pair.{Pair}
+use Rattle.bus_formats.specs.Plans.{StationData}
+use Rattle.bus_model.specs.Memory.{TimedLoad}
+use Rattle.bus_model.specs.Control.{OutsideTake, so_far, hearing_after, takes_control}
+use Rattle.bus_terminal.specs.Stands.{AreMade}
+use Rattle.bus_terminal.specs.TerminalStands.{TerminalStands}
+use Rattle.bus_controller.specs.ControllerStands.{ControllerStands}
+use Rattle.bus_station.specs.Roles.{tick_of}
+use Rattle.bus_station.specs.Told.{attempts_told, delivery_told, ended_newest, delivered_newest}
+use Rattle.bus_station.specs.declared.event.StationEvent.{StationEvent}
+use Rattle.bus_station.specs.declared.station.Station.{Station}
+
+-- the takes of the station were made: each in a tick that was heard
+abbrev pub AreTaken : ℕ → ℕ → List OutsideTake → Type 0
+AreTaken address now [] = ⊤
+AreTaken address now (take ∷ takes) = (take.address ≡ address → take.tick < now) × AreTaken address now takes
+
+pub record Stands (k : ℕ) (station : StationData) (starts : Bool) (loads : List TimedLoad) (outside : List OutsideTake) (value : Station) (past : List Pair) : Type 0 where
+  pub address : value.address ≡ station.terminal.address
+  pub controller : ControllerStands k station starts (so_far k station starts loads outside past).takes value.controller past
+  pub terminal : TerminalStands k station.terminal loads value.terminal (hearing_after k station starts loads outside past)
+  pub taking : value.taking ≡ tick_of (takes_control k station starts loads outside past)
+  pub made : AreMade station.terminal.address (length past) loads
+  pub taken : AreTaken station.terminal.address (length past) outside
+
+-- the station stands for what the channels showed, with the loads and the takes that were made so far
+unfoldable pub StationStands : ℕ → StationData → Bool → List TimedLoad → List OutsideTake → Station → List Pair → Type 0
+StationStands k station starts loads outside value past = Stands k station starts loads outside value past
+
+-- a station after one tick more, and what it told of that tick
+pub record AfterTick (k : ℕ) (station : StationData) (starts : Bool) (loads : List TimedLoad) (outside : List OutsideTake) (value : Station) (event : StationEvent) (shown : Pair) (past : List Pair) : Type 0 where
+  pub stands : StationStands k station starts loads outside value (shown ∷ past)
+  pub ended : attempts_told event ≡ ended_newest k station starts loads outside (shown ∷ past)
+  pub took : delivery_told event ≡ delivered_newest k station starts loads outside (shown ∷ past)
