@@ -5,3 +5,4 @@ pub mod CableLaws
 pub mod MonitorLaws
 pub mod CrewLaws
 pub mod DoneLaws
+pub mod BusLaws

@@ -1,5 +1,5 @@
 //! The bus of a plan, tick by tick.
-ghost use Rattle.std.specs.Prelude.{◌≡◌, ◌≤◌, ◌<◌, ◌+◌, ℕ, suc, List, [], map, true, false, None, Some, IsSome};
+ghost use Rattle.std.specs.Prelude.{◌≡◌, ◌≤◌, ◌<◌, ◌+◌, ◌*◌, ◌||◌, nat_lt, ℕ, suc, List, [], map, true, false, None, Some, IsSome};
 ghost use Rattle.bus_line.specs.Channels.{valid, bursts};
 ghost use Rattle.bus_line.specs.declared.cutter.TheConstants.{LAG};
 ghost use Rattle.bus_formats.specs.Plans.{PlanData};
@@ -66,10 +66,12 @@ impl Bus {
         requires { (plan : PlanData) × (t : ℕ) × BusStands plan t self.now }
         ensures { (plan : PlanData) (t : ℕ) → BusStands plan t self.now → result ≡ ends.is_outgrown plan (world LAG plan [] [] [] t) }
     {
-        let most = self.most_attempts;
-        self.crew.attempts().len() as u64 > most
-            || self.monitor.words().len() as u64 > 120 * most
-            || self.monitor.bursts().len() as u64 > 3 * most
+        is_past(
+            self.most_attempts,
+            self.crew.attempts().len(),
+            self.monitor.words().len(),
+            self.monitor.bursts().len(),
+        )
     }
 
     // Whether nothing is left to do and both channels have been quiet long enough.
@@ -142,4 +144,12 @@ impl Bus {
     {
         self.ticks
     }
+}
+
+// Whether there are more attempts, words or bursts than so many attempts can have.
+fn is_past(most: u64, attempts: usize, words: usize, bursts: usize) -> bool
+    requires { most ≤ 0x8000_0000 }
+    ensures { result ≡ (nat_lt most attempts || (nat_lt (120 * most) words || nat_lt (3 * most) bursts)) }
+{
+    attempts as u64 > most || words as u64 > 120 * most || bursts as u64 > 3 * most
 }

@@ -64,12 +64,7 @@ impl Crew {
         ensures { (plan : PlanData) (past : List Pair) → StationsStand plan self.now.stations.items past →
             result ≡ list_all (is_done LAG plan [] [] [] past) plan.stations }
     {
-        for station in self.stations.as_slice() {
-            if !is_done(station) {
-                return false;
-            }
-        }
-        true
+        are_done(&self.stations)
     }
 
     /// The stations and the attempts.
@@ -106,6 +101,18 @@ fn note(attempts: &mut Vec<Attempt>, event: StationEvent)
         StationEvent::Ended(attempt) => attempts.push_reserved(attempt),
         StationEvent::Nothing | StationEvent::Took(_) => {}
     }
+}
+
+fn are_done(stations: &[Station]) -> bool
+    ensures { (plan : PlanData) (past : List Pair) → StationsStand plan stations.now past →
+        result ≡ list_all (is_done LAG plan [] [] [] past) plan.stations }
+{
+    for station in stations {
+        if !is_done(station) {
+            return false;
+        }
+    }
+    true
 }
 
 // Whether a station is idle and isn't taking control.

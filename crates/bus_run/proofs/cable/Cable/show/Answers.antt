@@ -13,7 +13,7 @@ pub show-shown-requires-clause-few : goal.show-shown-requires-clause-few
 show-shown-requires-clause-few c =
     let (plan, past, driven, st, cable, small) = c.requires in
     let is : length c.deref.result.now ≡ length plan.stations =
-    ap length (c.deref.ensures.value ∙ c.drive.ensures.drives plan past st) ∙ length-map (drive_after LAG plan [] [] [] past) plan.stations in
+    ap length (c.deref.ensures.value ∙ c.drive.ensures.drives plan past st) ∙ length-map plan.stations (drive_after LAG plan [] [] [] past) in
     let few = cable.few in
     omega (arith, is, few)
 
@@ -31,7 +31,7 @@ returns-clause-stands c plan past driven st cable =
     let before : WireStands plan.faults c.drive.new.self.wire driven = subst (λ w. WireStands plan.faults w driven) (sym c.drive.ensures.wire) cable.wire in
     record {
       wire = subst (λ (ds : List Drive). WireStands plan.faults c.show-shown.new.self (ds ∷ driven)) drives (c.show-shown.ensures.stands plan.faults driven before);
-      drives = ap length (c.drive.ensures.drives plan past st) ∙ length-map (drive_after LAG plan [] [] [] past) plan.stations;
+      drives = ap length (c.drive.ensures.drives plan past st) ∙ length-map plan.stations (drive_after LAG plan [] [] [] past);
       few = cable.few;
       clashes_are = c.clashes_after-self.ensures (drivers plan.faults A (drives_after LAG plan [] [] [] past ∷ driven)) (drivers plan.faults B (drives_after LAG plan [] [] [] past ∷ driven))
           (subst (λ (ds : List Drive). c.show-shown.result.drivers ≡ drivers plan.faults A (ds ∷ driven) ∷ drivers plan.faults B (ds ∷ driven) ∷ []) drives
