@@ -5,5 +5,7 @@ pub mod FoundLaws
 pub mod TransmitterLaws
 pub mod ShownLaws
 pub mod SideLaws
+pub mod ExtraLaws
 pub mod OnLaws
 pub mod StationLaws
+pub mod WireLaws

@@ -1,5 +1,5 @@
 -- The newest tick in which a channel was driven tells whether it was driven since a tick, and whether it was in the newest tick.
-use Rattle.std.proofs.Common.{◌≡◌, ℕ, zero, suc, ◌+◌, ◌-◌, ◌<◌, ◌≤◌, Bool, true, false, ◌||◌, ◌==◌, nat_lt, nat_le, List, [], ◌∷◌, length, Option, Some, None, refl, sym, ap, ◌∙◌, arith, if◌then◌else◌}
+use Rattle.std.proofs.Common.{◌≡◌, ℕ, suc, ◌<◌, Bool, true, false, ◌||◌, nat_lt, List, [], ◌∷◌, length, Option, Some, None, refl, ap, ◌∙◌, arith, if◌then◌else◌}
 use Rattle.std.specs.Prelude.{IfSome}
 use Rattle.std.proofs.lemmas.Bool.Decides.{nat_tests}
 use Rattle.bus_base.specs.declared.samples.Channel.{Channel}
@@ -26,7 +26,8 @@ since-more false tick from None h = grind (arith, nat_tests)
 since-more false tick from (Some t) h = grind (arith, nat_tests)
 
 -- a station drove the channel since a tick
-pub drove-newest : (station : ℕ) (c : Channel) (driven : List (List Drive)) (from : ℕ) → drove_since station c driven from ≡ since (newest (by_station station c) driven) from
+pub drove-newest : (station : ℕ) (c : Channel) (driven : List (List Drive)) (from : ℕ) →
+    drove_since station c driven from ≡ since (newest (by_station station c) driven) from
 unfolding newest drove_since
 drove-newest station c [] from = refl
 drove-newest station c (now ∷ before) from =
@@ -55,10 +56,12 @@ next-newest station c (now ∷ before) =
     next-more (by_station station c now) (length before) (newest (by_station station c) before) (newest-before (by_station station c) before)
 
 -- one tick more, in which the test fails or passes
-pub newest-quiet : (test : List Drive → Bool) (now : List Drive) (driven : List (List Drive)) → test now ≡ false → newest test (now ∷ driven) ≡ newest test driven
+pub newest-quiet : (test : List Drive → Bool) (now : List Drive) (driven : List (List Drive)) → test now ≡ false →
+    newest test (now ∷ driven) ≡ newest test driven
 unfolding newest
 newest-quiet test now driven e = rw e refl
 
-pub newest-now : (test : List Drive → Bool) (now : List Drive) (driven : List (List Drive)) → test now ≡ true → newest test (now ∷ driven) ≡ Some (length driven)
+pub newest-now : (test : List Drive → Bool) (now : List Drive) (driven : List (List Drive)) → test now ≡ true →
+    newest test (now ∷ driven) ≡ Some (length driven)
 unfolding newest
 newest-now test now driven e = rw e refl

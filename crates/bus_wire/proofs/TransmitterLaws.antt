@@ -1,20 +1,21 @@
 -- A transmitter with one tick more of what was driven.
-use Rattle.std.proofs.Common.{◌≡◌, ℕ, zero, suc, ◌+◌, ◌-◌, ◌<◌, ◌≤◌, Bool, true, false, not, ◌&&◌, List, [], ◌∷◌, length, Option, Some, None, refl, sym, ap, ◌∙◌, subst, arith, if◌then◌else◌}
+use Rattle.std.proofs.Common.{◌≡◌, ℕ, ◌+◌, ◌-◌, Bool, true, false, not, ◌&&◌, List, []}
+use Rattle.std.proofs.Common.{◌∷◌, length, Option, Some, None, refl, sym, ap, ◌∙◌, subst, arith, if◌then◌else◌}
 use Rattle.std.specs.Prelude.{find, count_by, IsSome}
 use Rattle.std.specs.List.{list_any}
 use Rattle.std.proofs.lemmas.Bool.{false≢true}
 use Rattle.bus_base.specs.declared.samples.Channel.{Channel}
 use Rattle.bus_base.specs.declared.samples.Drive.{Drive}
-use Rattle.bus_base.specs.declared.samples.Drive.TheVariants.{Silent, On}
+use Rattle.bus_base.specs.declared.samples.Drive.TheVariants.{On}
 use Rattle.bus_base.specs.declared.samples.Part.{Part}
 use Rattle.bus_base.specs.declared.samples.Sample.{Sample}
 use Rattle.bus_formats.specs.declared.fault.Fault.{Fault}
 use Rattle.bus_model.specs.Strikes.{hits_on}
-use Rattle.bus_model.specs.Transmissions.{Transmission, is_of, is_command, drives_on, drives_last, station_drive, newest_drives, last_or_now, last_since, cut_over, is_cut_over, new_transmission, with_drive}
+use Rattle.bus_model.specs.Transmissions.{Transmission, is_of, is_command, drives_on, station_drive}
+use Rattle.bus_model.specs.Transmissions.{newest_drives, last_since, cut_over, is_cut_over, new_transmission, with_drive}
 use Rattle.bus_wire.specs.Newest.{by_station, newest}
 use Rattle.bus_wire.specs.Steps.{is_next, goes_on, driven_by, sends_command}
-use Rattle.bus_wire.specs.Stands.{AreStrikes, Unsent, Begins, Follows, Keeps, kept_of, transmission_of}
-use Rattle.bus_wire.specs.declared.transmitter.Driven.{Driven}
+use Rattle.bus_wire.specs.Stands.{Unsent, Begins, Follows, Keeps, kept_of, transmission_of}
 use Rattle.bus_wire.specs.declared.transmitter.Transmitter.{Transmitter}
 use Rattle.bus_wire.proofs.NewestLaws.{newest-quiet, newest-now, next-newest}
 use Rattle.bus_wire.proofs.LastLaws.{last-now, last-later, last-quiet, on-drives, on-last}
@@ -33,7 +34,8 @@ keeps-first faults station c t u = record {
 }
 
 -- a tick in which the station doesn't drive the channel
-pub keeps-quiet : (faults : List Fault) (station : ℕ) (c : Channel) (t : Transmitter) (now : List Drive) (driven : List (List Drive)) (found : Option Transmission) →
+pub keeps-quiet : (faults : List Fault) (station : ℕ) (c : Channel) (t : Transmitter) (now : List Drive) (driven : List (List Drive))
+    (found : Option Transmission) →
     drives_on c (station_drive station now) ≡ false → Keeps faults station c t driven found → Keeps faults station c t (now ∷ driven) found
 keeps-quiet faults station c t now driven found e k = record {
   drove = k.drove ∙ sym (newest-quiet (by_station station c) now driven e);
@@ -67,7 +69,8 @@ pub with-drive-is : (faults : List Fault) (station : ℕ) (c : Channel) (t : Tra
 with-drive-is faults station c t driven ts sample part last k =
     ap (λ goes. if goes then ts else new_transmission station c part (length driven) ts ∷ ts) (goes-is faults station c t driven (find (is_of station c) ts) k)
 
-goes-drove : (faults : List Fault) (station : ℕ) (c : Channel) (t next : Transmitter) (tick : ℕ) (drove : Option ℕ) → goes_on faults tick t ≡ true → drove ≡ t.drove →
+goes-drove : (faults : List Fault) (station : ℕ) (c : Channel) (t next : Transmitter) (tick : ℕ) (drove : Option ℕ) → goes_on faults tick t ≡ true →
+    drove ≡ t.drove →
     transmission_of station c next ≡ transmission_of station c t → kept_of station c t t.drove ≡ Some (transmission_of station c next)
 goes-drove faults station c t next tick None g e same = (let no : false ≡ true = rw (← e) at g in cc)
 goes-drove faults station c t next tick (Some drove) g e same = rw (← e) (ap Some (sym same))
@@ -77,7 +80,8 @@ goes-some faults t tick None g e = (let no : false ≡ true = rw (← e) at g in
 goes-some faults t tick (Some drove) g e = rw (← e) refl
 
 -- it goes on
-pub keeps-going : (faults : List Fault) (station : ℕ) (c : Channel) (t next : Transmitter) (now : List Drive) (driven : List (List Drive)) (found : Option Transmission)
+pub keeps-going : (faults : List Fault) (station : ℕ) (c : Channel) (t next : Transmitter) (now : List Drive) (driven : List (List Drive))
+    (found : Option Transmission)
     (sample : Sample) (part : Part) (last : Bool) → station_drive station now ≡ On c sample part last → goes_on faults (length driven) t ≡ true →
     next ≡ driven_by (length driven) last t → Keeps faults station c t driven found → Keeps faults station c next (now ∷ driven) found
 keeps-going faults station c t next now driven found sample part last d g is k = rw is record {
@@ -90,34 +94,41 @@ keeps-going faults station c t next now driven found sample part last d g is k =
 }
 
 -- a transmission begins
-pub keeps-beginning : (faults : List Fault) (station : ℕ) (c : Channel) (next : Transmitter) (now : List Drive) (driven : List (List Drive)) (ts : List Transmission)
+pub keeps-beginning : (faults : List Fault) (station : ℕ) (c : Channel) (next : Transmitter) (now : List Drive) (driven : List (List Drive))
+    (ts : List Transmission)
     (sample : Sample) (part : Part) (last : Bool) (commands after : ℕ) → station_drive station now ≡ On c sample part last → commands ≡ count_by is_command ts →
     Begins faults commands (record { tick = length driven; part = part; last = last }) next after →
     Keeps faults station c next (now ∷ driven) (find (is_of station c) (new_transmission station c part (length driven) ts ∷ ts))
 keeps-beginning faults station c next now driven ts sample part last commands after d counted b =
-    let attempt : next.strikes.attempt ≡ (new_transmission station c part (length driven) ts).attempt = b.attempt ∙ (b.counted ∙ ap (λ n. n + (if sends_command part then 1 else 0)) counted) in
+    let attempt : next.strikes.attempt ≡ (new_transmission station c part (length driven) ts).attempt = b.attempt ∙ (b.counted
+    ∙ ap (λ n. n + (if sends_command part then 1 else 0)) counted) in
     let new : Transmitter = driven_by (length driven) last (record { drove = None; first = length driven; last = None; strikes = next.strikes }) in
     let kept : Keeps faults station c new (now ∷ driven) (find (is_of station c) (new_transmission station c part (length driven) ts ∷ ts)) = record {
       drove = sym (newest-now (by_station station c) now driven (rw d (on-drives c sample part last)));
       found_is = found-own station c part (length driven) ts ∙ (rw (attempt, b.part) refl);
       first = omega arith;
-      last = sym (last-now station c now driven (length driven) (omega arith) ∙ (rw (d, on-last c sample part last, last-later station c driven (length driven) (omega arith)) refl));
+      last = sym (last-now station c now driven (length driven) (omega arith)
+          ∙ (rw (d, on-last c sample part last, last-later station c driven (length driven) (omega arith)) refl));
       never = λ e. (let no : Some (length driven) ≡ None = e in cc);
       strikes = λ h. b.strikes;
     } in
-    subst (λ (t : Transmitter). Keeps faults station c t (now ∷ driven) (find (is_of station c) (new_transmission station c part (length driven) ts ∷ ts))) (sym b.is) kept
+    subst (λ (t : Transmitter). Keeps faults station c t (now ∷ driven) (find (is_of station c) (new_transmission station c part (length driven) ts ∷ ts)))
+    (sym b.is) kept
 
 -- ---- the two together
 
 -- a station drives the channel: its transmitter then stands for one tick more, and the commands are counted
-pub keeps-driving : (faults : List Fault) (station : ℕ) (c : Channel) (t next : Transmitter) (now : List Drive) (driven : List (List Drive)) (ts : List Transmission)
-    (sample : Sample) (part : Part) (last : Bool) (commands after : ℕ) (goes : Bool) → station_drive station now ≡ On c sample part last → commands ≡ count_by is_command ts →
+pub keeps-driving : (faults : List Fault) (station : ℕ) (c : Channel) (t next : Transmitter) (now : List Drive) (driven : List (List Drive))
+    (ts : List Transmission)
+    (sample : Sample) (part : Part) (last : Bool) (commands after : ℕ) (goes : Bool) → station_drive station now ≡ On c sample part last →
+    commands ≡ count_by is_command ts →
     goes_on faults (length driven) t ≡ goes → Follows faults commands (record { tick = length driven; part = part; last = last }) goes t next after →
     Keeps faults station c t driven (find (is_of station c) ts) →
     Keeps faults station c next (now ∷ driven) (find (is_of station c) (if goes then ts else new_transmission station c part (length driven) ts ∷ ts))
     × (after ≡ count_by is_command (if goes then ts else new_transmission station c part (length driven) ts ∷ ts))
 keeps-driving faults station c t next now driven ts sample part last commands after true d counted g follows k =
     (keeps-going faults station c t next now driven (find (is_of station c) ts) sample part last d g follows.0 k, follows.1 ∙ counted)
-keeps-driving faults station c t next now driven ts sample part last commands after false d counted g b k =
-    (keeps-beginning faults station c next now driven ts sample part last commands after d counted b,
-    b.counted ∙ (ap (λ n. n + (if sends_command part then 1 else 0)) counted ∙ counted-new station c part (length driven) ts))
+keeps-driving faults station c t next now driven ts sample part last commands after false d counted g b k = (
+  keeps-beginning faults station c next now driven ts sample part last commands after d counted b,
+  b.counted ∙ (ap (λ n. n + (if sends_command part then 1 else 0)) counted ∙ counted-new station c part (length driven) ts),
+)

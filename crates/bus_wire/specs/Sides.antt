@@ -1,5 +1,5 @@
 -- What one channel keeps of what was driven.
-use Rattle.std.specs.Prelude.{◌≡◌, ℕ, ◌+◌, ◌==◌, if◌then◌else◌, List, length, find, slice_get, slice_set, get_or, Option, Some, None, IsSome}
+use Rattle.std.specs.Prelude.{◌≡◌, ℕ, ◌+◌, ◌≤◌, ◌==◌, if◌then◌else◌, List, length, find, slice_get, slice_set, get_or, Option, Some, None, IsSome}
 use Rattle.bus_base.specs.declared.samples.Channel.{Channel}
 use Rattle.bus_base.specs.declared.samples.Sample.{Sample}
 use Rattle.bus_base.specs.declared.samples.Sample.TheVariants.{Quiet}
@@ -7,7 +7,7 @@ use Rattle.bus_base.specs.declared.samples.Drive.{Drive}
 use Rattle.bus_formats.specs.declared.fault.Fault.{Fault}
 use Rattle.bus_model.specs.Transmissions.{is_of, transmissions}
 use Rattle.bus_wire.specs.Newest.{newest, by_any}
-use Rattle.bus_wire.specs.Steps.{goes_on}
+use Rattle.bus_wire.specs.Steps.{goes_on, extra_with}
 use Rattle.bus_wire.specs.Stands.{AreStrikes, Unsent, Follows, Keeps}
 use Rattle.bus_wire.specs.declared.transmitter.Driven.{Driven}
 use Rattle.bus_wire.specs.declared.transmitter.Transmitter.{Transmitter}
@@ -24,6 +24,7 @@ pub record IsUnsent (side : Side) : Type 0 where
   pub all : length side.transmitters ≡ 32
   pub each : (i : ℕ) (t : Transmitter) → slice_get side.transmitters i ≡ Some t → Unsent t
   pub driven : side.driven ≡ None
+  pub extra : side.extra ≡ None
 
 -- a station drives the channel
 pub record SideFollows (faults : List Fault) (station commands : ℕ) (driven : Driven) (old new : Side) (after : ℕ) : Type 0 where
@@ -31,7 +32,17 @@ pub record SideFollows (faults : List Fault) (station commands : ℕ) (driven : 
   pub next : Transmitter
   pub here : slice_get old.transmitters station ≡ Some t
   pub follows : Follows faults commands driven (goes_on faults driven.tick t) t next after
-  pub is : new ≡ record { transmitters = slice_set old.transmitters station next; driven = Some driven.tick }
+  pub is : new ≡ record { transmitters = slice_set old.transmitters station next; driven = Some driven.tick; extra = extra_with old.extra next }
+
+-- a tick is known that is this one or a later one
+abbrev pub IsSince : Option ℕ → ℕ → Type 0
+IsSince None first = ⊥
+IsSince (Some newest) first = first ≤ newest
+
+-- no transmission with an extra began later than the one whose first tick is kept
+abbrev pub KnowsExtras : Side → Type 0
+KnowsExtras side =
+    (i : ℕ) (t : Transmitter) → slice_get side.transmitters i ≡ Some t → IsSome t.strikes.extra → IsSince side.extra t.first
 
 -- the channel stands for what was driven
 pub record SideStands (faults : List Fault) (c : Channel) (side : Side) (driven : List (List Drive)) : Type 0 where
@@ -39,6 +50,7 @@ pub record SideStands (faults : List Fault) (c : Channel) (side : Side) (driven 
   pub each : (i : ℕ) (t : Transmitter) → slice_get side.transmitters i ≡ Some t →
       Keeps faults i c t driven (find (is_of i c) (transmissions faults driven))
   pub driven_is : side.driven ≡ newest (by_any c) driven
+  pub extras : KnowsExtras side
 
 -- ---- what a channel shows
 

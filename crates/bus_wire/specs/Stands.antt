@@ -23,6 +23,7 @@ pub record Unsent (t : Transmitter) : Type 0 where
   pub drove : t.drove ≡ None
   pub first : t.first ≡ 0
   pub last : t.last ≡ None
+  pub extra : t.strikes.extra ≡ None
 
 -- ---- a station drives the channel
 

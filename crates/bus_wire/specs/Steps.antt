@@ -1,5 +1,5 @@
 -- One tick of a transmitter, as functions of the transmitter alone. They mirror the code; what they mean is said over what was driven.
-use Rattle.std.specs.Prelude.{ℕ, suc, ◌+◌, ◌-◌, ◌*◌, Bool, false, not, ◌&&◌, ◌==◌, nat_lt, nat_le, if◌then◌else◌, List, [], ◌∷◌, Option, Some, None}
+use Rattle.std.specs.Prelude.{ℕ, suc, ◌+◌, ◌-◌, ◌*◌, Bool, false, not, ◌&&◌, ◌==◌, nat_lt, nat_le, max, if◌then◌else◌, List, [], ◌∷◌, Option, Some, None}
 use Rattle.std.specs.List.{list_any}
 use Rattle.bus_base.specs.Samples.{same_part, same_channel}
 use Rattle.bus_base.specs.declared.samples.Channel.{Channel}
@@ -78,3 +78,22 @@ shown_or faults tick other t (Some sample) = Some (struck_of faults tick t sampl
 
 abbrev pub shown_of : List Fault → ℕ → Option ℕ → Channel → Drive → Transmitter → Option Sample
 shown_of faults tick other c drive t = shown_or faults tick other t (driven_sample c drive)
+
+-- ---- extras of a channel
+
+abbrev pub later_of : Option ℕ → ℕ → ℕ
+later_of None tick = tick
+later_of (Some earlier) tick = max earlier tick
+
+abbrev pub extra_or_earlier : Option ℕ → ℕ → Option ℕ → Option ℕ
+extra_or_earlier earlier first None = earlier
+extra_or_earlier earlier first (Some words) = Some (later_of earlier first)
+
+-- the first tick of the newest transmission with an extra, of this one and earlier ones
+abbrev pub extra_with : Option ℕ → Transmitter → Option ℕ
+extra_with earlier t = extra_or_earlier earlier t.first t.strikes.extra
+
+-- the fail-safe hasn't stopped all extras of a channel
+abbrev pub may_add : ℕ → Option ℕ → Bool
+may_add tick None = false
+may_add tick (Some first) = nat_lt (tick - first) longest

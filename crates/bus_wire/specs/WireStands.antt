@@ -7,7 +7,7 @@ use Rattle.bus_formats.specs.declared.fault.Fault.{Fault}
 use Rattle.bus_model.specs.Transmissions.{Transmission, is_of, is_command, newest_drives, with_drives, transmissions}
 use Rattle.bus_wire.specs.Newest.{newest, by_any, tick_or}
 use Rattle.bus_wire.specs.Stands.{Keeps}
-use Rattle.bus_wire.specs.Sides.{SideStands}
+use Rattle.bus_wire.specs.Sides.{SideStands, KnowsExtras}
 use Rattle.bus_wire.specs.declared.transmitter.Transmitter.{Transmitter}
 use Rattle.bus_wire.specs.declared.side.Side.{Side}
 use Rattle.bus_wire.specs.declared.wire.Wire.{Wire}
@@ -29,11 +29,13 @@ pub record Stands (faults : List Fault) (wire : Wire) (driven : List (List Drive
 abbrev pub so_far : ℕ → ℕ → List Drive → List (List Drive) → List (List Drive)
 so_far station now drives driven = if nat_lt station now then drives ∷ driven else driven
 
-pub record SideFollowsTo (faults : List Fault) (driven : List (List Drive)) (drives : List Drive) (now : ℕ) (begun : List Transmission) (c : Channel) (side : Side) : Type 0 where
+pub record SideFollowsTo (faults : List Fault) (driven : List (List Drive)) (drives : List Drive) (now : ℕ) (begun : List Transmission) (c : Channel)
+    (side : Side) : Type 0 where
   pub all : length side.transmitters ≡ 32
   pub each : (i : ℕ) (t : Transmitter) → slice_get side.transmitters i ≡ Some t →
       Keeps faults i c t (so_far i now drives driven) (find (is_of i c) begun)
   pub driven_is : side.driven ≡ tick_or (by_any c (take now drives)) (length driven) (newest (by_any c) driven)
+  pub extras : KnowsExtras side
 
 pub record FollowsTo (faults : List Fault) (driven : List (List Drive)) (drives : List Drive) (now : ℕ) (wire : Wire) : Type 0 where
   pub faults_are : wire.faults.items ≡ faults

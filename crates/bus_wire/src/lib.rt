@@ -3,9 +3,12 @@
 //! faults and of what was driven.
 #![tactic(auto)]
 
-pub mod side;
-pub mod strikes;
-pub mod transmitter;
-pub mod wire;
+mod side;
+mod strikes;
+mod transmitter;
+mod wire;
 
 pub use wire::{Shown, Wire};
+
+#[cfg(test)]
+mod tests;

@@ -4,22 +4,22 @@ ghost use Rattle.bus_base.specs.Samples.{other_of};
 ghost use Rattle.bus_base.specs.declared.samples.Drive.{Drive};
 ghost use Rattle.bus_model.specs.Wire.{samples_on};
 ghost use Rattle.bus_wire.specs.Newest.{newest, by_any};
+ghost use Rattle.bus_wire.specs.Steps.{may_add};
 ghost use Rattle.bus_wire.specs.Sides.{SideFits, SideFollows, SideStands, IsUnsent, Shows, with_shown};
 
-use crate::transmitter::{Driven, Transmitter};
+use crate::transmitter::{Driven, LONGEST, Transmitter, sample_on};
 use bus_base::{Channel, Drive, Sample};
 use bus_formats::Fault;
-
-/// The most stations of a bus.
-pub const MOST_STATIONS: usize = 32;
 
 /// One channel.
 #[derive(Drop)]
 pub struct Side {
-    // the transmitters of the stations, in the order of the plan
+    // the transmitters of the stations, at most 32, in the order of the plan
     transmitters: [Transmitter; 32],
     // the newest tick in which any station drove the channel
     driven: Option<u64>,
+    // the first tick of the newest transmission on the channel to which an extra adds
+    extra: Option<u64>,
 }
 
 /// What a channel shows in a tick, and how many stations count as driving it.
@@ -57,6 +57,7 @@ impl Side {
         Side {
             transmitters: [Transmitter::new(); 32],
             driven: None,
+            extra: None,
         }
     }
 
@@ -81,7 +82,10 @@ impl Side {
         ensures { SideFollows faults.now station commands driven self.old self.new result }
     {
         self.driven = Some(driven.tick);
-        self.transmitters[station].follow(faults, commands, driven)
+        let transmitter = &mut self.transmitters[station];
+        let after = transmitter.follow(faults, commands, driven);
+        self.extra = transmitter.extra_since(self.extra);
+        after
     }
 
     /// What this channel shows in this tick, the newest, of what the stations drive: the first station in their order that counts as driving
@@ -100,13 +104,25 @@ impl Side {
         ensures { (before : List (List Drive)) → SideStands faults.now channel self.now (drives.now ∷ before) → tick ≡ length before →
             other ≡ newest (by_any (other_of channel)) (drives.now ∷ before) → Shows (samples_on faults.now channel (drives.now ∷ before)) result }
     {
+        let adds = self.may_add(tick);
         let mut on = OnChannel {
             sample: Sample::Quiet,
             drivers: 0,
         };
         for (station, drive) in drives.iter().enumerate() {
-            on = on.with(self.transmitters[station].shown(channel, faults, tick, other, *drive));
+            let sample = sample_on(channel, *drive);
+            on = on.with(self.transmitters[station].shown(faults, tick, other, adds, sample));
         }
         on
+    }
+
+    // Whether an extra may add to a transmission of the channel in this tick: the fail-safe hasn't stopped all of them.
+    fn may_add(&self, tick: u64) -> bool
+        ensures { result ≡ may_add tick self.now.extra }
+    {
+        match self.extra {
+            Some(first) => tick.saturating_sub(first) < LONGEST,
+            None => false,
+        }
     }
 }

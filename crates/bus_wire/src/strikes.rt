@@ -74,7 +74,7 @@ impl Strikes {
     }
 
     /// Whether a cut ended the transmission before this place.
-    pub fn end(&self, faults: &[Fault], place: u64) -> bool
+    pub fn is_cut_over(&self, faults: &[Fault], place: u64) -> bool
         requires { AreStrikes faults.now self.now }
         ensures { result ≡ list_any (spec.cut_over place) (hits_on faults.now self.now.attempt self.now.part) }
     {

@@ -1,10 +1,9 @@
 //! A station's transmitter on one channel: its newest transmission there.
-ghost use Rattle.std.specs.Prelude.{◌≡◌, ◌-◌, ◌<◌, ◌^◌, true, IsSome};
+ghost use Rattle.std.specs.Prelude.{◌≡◌, ◌-◌, ◌<◌, ◌^◌, false, None, IsSome};
 ghost use Rattle.bus_model.specs.Wire as spec;
 ghost use Rattle.bus_model.specs.Strikes.{hits_on};
-ghost use Rattle.bus_model.specs.Transmissions.{drives_on};
 ghost use Rattle.bus_wire.specs.Newest.{since};
-ghost use Rattle.bus_wire.specs.Steps.{goes_on, driven_by, added_of, is_added, ends_by, sends_command, shown_of, driven_sample};
+ghost use Rattle.bus_wire.specs.Steps.{goes_on, driven_by, added_of, is_added, ends_by, sends_command, shown_or, driven_sample, extra_with};
 ghost use Rattle.bus_wire.specs.Stands.{AreStrikes, Unsent, Follows};
 
 use crate::strikes::Strikes;
@@ -81,7 +80,9 @@ impl Transmitter {
         match self.drove {
             Some(drove) => {
                 tick.saturating_sub(drove) == 1
-                    && !self.strikes.end(faults, tick.saturating_sub(self.first))
+                    && !self
+                        .strikes
+                        .is_cut_over(faults, tick.saturating_sub(self.first))
             }
             None => false,
         }
@@ -119,21 +120,37 @@ impl Transmitter {
         }
     }
 
-    /// What is shown of the station on the channel in this tick, if it counts as driving it: its struck sample, else what an extra adds.
+    /// What is shown of the station in this tick, if it counts as driving the channel: the sample that it drives there, struck, else what an
+    /// extra adds. `adds` says whether an extra may add to any transmission of the channel.
     pub fn shown(
         &self,
-        channel: Channel,
         faults: &[Fault],
         tick: u64,
         other: Option<u64>,
-        drive: Drive,
+        adds: bool,
+        sample: Option<Sample>,
     ) -> Option<Sample>
-        requires { drives_on channel drive ≡ true → AreStrikes faults.now self.now.strikes }
-        ensures { result ≡ shown_of faults.now tick other channel drive self.now }
+        requires strikes { IsSome sample → AreStrikes faults.now self.now.strikes }
+        requires adds { adds ≡ false → added_of tick other self.now ≡ None }
+        ensures { result ≡ shown_or faults.now tick other self.now sample }
     {
-        match sample_on(channel, drive) {
+        match sample {
             Some(sample) => Some(self.struck(faults, tick, sample)),
-            None => self.added(tick, other),
+            None if adds => self.added(tick, other),
+            None => None,
+        }
+    }
+
+    /// The first tick of the newest transmission with an extra, of this one and the one that began in tick `earlier`.
+    pub fn extra_since(&self, earlier: Option<u64>) -> Option<u64>
+        ensures { result ≡ extra_with earlier self.now }
+    {
+        if self.strikes.extra.is_none() {
+            return earlier;
+        }
+        match earlier {
+            Some(tick) => Some(tick.max(self.first)),
+            None => Some(self.first),
         }
     }
 
@@ -156,8 +173,8 @@ impl Transmitter {
     }
 }
 
-// The sample that a station drives on a channel, if it does.
-fn sample_on(channel: Channel, drive: Drive) -> Option<Sample>
+/// The sample that a station drives on a channel, if it does.
+pub fn sample_on(channel: Channel, drive: Drive) -> Option<Sample>
     ensures { result ≡ driven_sample channel drive }
 {
     match (channel, drive) {

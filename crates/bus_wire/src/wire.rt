@@ -20,14 +20,14 @@ pub struct Shown {
     pub drivers: [u8; 2],
 }
 
-/// The wire between the stations of a bus, with the faults of a plan. It stands for every list of faults and of what was driven that are
-/// told to it: the list of what was driven has a list of drives for each tick, the newest first, with a drive for each station.
+/// The wire between the stations of a bus. It stands for the faults of a plan and for what was driven since tick 0: a list of drives for each
+/// tick, the newest first, with a drive for each station.
 #[derive(Drop)]
 pub struct Wire {
     faults: Vec<Fault>,
     // the number of the tick to come
     next: u64,
-    // the transmissions of commands that have begun
+    // the transmissions of commands that have begun: each station may begin one in each of 2^60 ticks, too many for 64 bits
     commands: u128,
     a: Side,
     b: Side,
@@ -92,24 +92,26 @@ impl Wire {
         ensures { (faults : List Fault) (driven : List (List Drive)) (drives : List Drive) → FollowsTo faults driven drives station self.old →
             slice_get drives station ≡ Some drive → FollowsTo faults driven drives (station + 1) self.new }
     {
-        if let Drive::On {
-            channel,
-            part,
-            last,
-            ..
-        } = drive
-        {
-            let driven = Driven {
-                tick: self.next,
+        match drive {
+            Drive::Silent => {}
+            Drive::On {
+                channel,
                 part,
                 last,
-            };
-            match channel {
-                Channel::A => {
-                    self.commands = self.a.follow(station, &self.faults, self.commands, driven);
-                }
-                Channel::B => {
-                    self.commands = self.b.follow(station, &self.faults, self.commands, driven);
+                ..
+            } => {
+                let driven = Driven {
+                    tick: self.next,
+                    part,
+                    last,
+                };
+                match channel {
+                    Channel::A => {
+                        self.commands = self.a.follow(station, &self.faults, self.commands, driven);
+                    }
+                    Channel::B => {
+                        self.commands = self.b.follow(station, &self.faults, self.commands, driven);
+                    }
                 }
             }
         }

@@ -2,8 +2,6 @@ use Rattle.std.proofs.Common.{◌≡◌, drop}
 use Rattle.std.specs.List.{list_any}
 use Rattle.bus_model.specs.Strikes.{hits_on}
 use Rattle.bus_model.specs.Transmissions.{cut_over}
-use Rattle.bus_model.specs.Wire.{struck_sample}
-use Rattle.bus_wire.specs.Steps.{first_extra}
 use Rattle.bus_wire.proofs.strikes.cut_in.Given as goal
 
 -- no cut so far ended it

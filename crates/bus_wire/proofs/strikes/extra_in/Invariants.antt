@@ -1,8 +1,5 @@
 use Rattle.std.proofs.Common.{◌≡◌, drop}
-use Rattle.std.specs.List.{list_any}
 use Rattle.bus_model.specs.Strikes.{hits_on}
-use Rattle.bus_model.specs.Transmissions.{cut_over}
-use Rattle.bus_model.specs.Wire.{struck_sample}
 use Rattle.bus_wire.specs.Steps.{first_extra}
 use Rattle.bus_wire.proofs.strikes.extra_in.Given as goal
 
