@@ -1,5 +1,6 @@
 -- A controller's course, one tick longer: what it tells of the tick, and whether control was given in it.
-use Rattle.std.proofs.Common.{◌≡◌, ℕ, suc, ◌<◌, ◌≤◌, Bool, true, false, not, ◌&&◌, ◌==◌, nat_le, List, [], ◌∷◌, ◌++◌, length, Option, Some, None, refl, sym, ap, ◌∙◌, subst, arith, if◌then◌else◌, ⊤}
+use Rattle.std.proofs.Common.{◌≡◌, ℕ, suc, ◌<◌, Bool, true, false, not, ◌==◌, List, [], ◌∷◌, length, Option, Some, None, refl, sym, ap, ◌∙◌, subst, arith, if◌then◌else◌}
+use Rattle.std.specs.Prelude.{⊤}
 use Rattle.std.proofs.lemmas.Bool.Decides.{nat_tests}
 use Rattle.bus_base.specs.declared.samples.Channel.{Channel}
 use Rattle.bus_base.specs.declared.samples.Pair.{Pair}
@@ -11,7 +12,7 @@ use Rattle.bus_retry.specs.Retries.{next_of}
 use Rattle.bus_model.specs.Starts.{opening_after, finishes}
 use Rattle.bus_model.specs.Attempts.{Begun, Ended}
 use Rattle.bus_model.specs.Controller.{ending_now}
-use Rattle.bus_model.specs.Course.{Take, Course, course, gives, attempt_of, close_or_run, run_on, runs_next, run_by, begin_entry, with_takes, take_control, at_first}
+use Rattle.bus_model.specs.Course.{Take, Course, course, gives, attempt_of, close_or_run, run_on, runs_next, with_takes, take_control, at_first}
 use Rattle.bus_model.specs.Control.{is_yielded, yielded_in, taking_from}
 use Rattle.bus_controller.specs.ControllerStands.{NoneLater}
 use Rattle.bus_controller.proofs.Wholes.{course-more}
@@ -119,12 +120,14 @@ before-of : (c : Course) (begun : Begun) (tick : ℕ) (e : Option Ended) → Bef
 before-of c begun tick None h = before-more tick c.ended h
 before-of c begun tick (Some e) h = omega arith
 
-before-by : (k : ℕ) (x : Pair) (past : List Pair) (c : Course) (b : Option Begun) → Before (length past) c.ended → Before (suc (length past)) (run_on k x past c b).ended
+before-by : (k : ℕ) (x : Pair) (past : List Pair) (c : Course) (b : Option Begun) → Before (length past) c.ended →
+    Before (suc (length past)) (run_on k x past c b).ended
 before-by k x past c None h = before-more (length past) c.ended h
 before-by k x past c (Some begun) h = before-of c begun (length past) (ending_now k begun (x ∷ past)) h
 
 -- each attempt ended in a tick that was heard
-pub ended-before : (k : ℕ) (station : StationData) (starts : Bool) (takes : List Take) (past : List Pair) → Before (length past) (course k station starts takes past).ended
+pub ended-before : (k : ℕ) (station : StationData) (starts : Bool) (takes : List Take) (past : List Pair) →
+    Before (length past) (course k station starts takes past).ended
 unfolding course
 ended-before k station starts takes [] = subst (λ (xs : List Attempt). Before 0 xs) (sym (with-takes takes 0 (at_first station starts)).ended) tt
 ended-before k station starts takes (x ∷ past) =
@@ -133,11 +136,13 @@ ended-before k station starts takes (x ∷ past) =
     (before-by k x past c (runs_next past c) (ended-before k station starts takes past))
 
 -- no attempt runs without control
-idle-of : (c : Course) (begun : Begun) (tick : ℕ) (e : Option Ended) → c.holds ≡ true → (close_or_run c begun tick e).holds ≡ false → (close_or_run c begun tick e).runs ≡ None
+idle-of : (c : Course) (begun : Begun) (tick : ℕ) (e : Option Ended) → c.holds ≡ true → (close_or_run c begun tick e).holds ≡ false →
+    (close_or_run c begun tick e).runs ≡ None
 idle-of c begun tick None on off = absurd (cc)
 idle-of c begun tick (Some e) on off = refl
 
-next-by : (past : List Pair) (c : Course) (b : Option Begun) (h : Bool) → c.holds ≡ h → c.runs ≡ b → (h ≡ false → b ≡ None) → h ≡ false → runs_next past c ≡ None
+next-by : (past : List Pair) (c : Course) (b : Option Begun) (h : Bool) → c.holds ≡ h → c.runs ≡ b → (h ≡ false → b ≡ None) → h ≡ false →
+    runs_next past c ≡ None
 next-by past c None false off is none e = rw (is, off) refl
 next-by past c (Some begun) false off is none e = absurd (let no = none refl in cc)
 next-by past c b true off is none e = absurd (cc)
@@ -146,7 +151,8 @@ next-by past c b true off is none e = absurd (cc)
 pub serves-on : (past : List Pair) (c : Course) → (c.holds ≡ false → c.runs ≡ None) → c.holds ≡ false → runs_next past c ≡ None
 serves-on past c idle off = next-by past c c.runs c.holds refl refl idle off
 
-idle-step : (k : ℕ) (x : Pair) (past : List Pair) (c : Course) (h : Bool) (b : Option Begun) → (c.holds ≡ false → c.runs ≡ None) → c.holds ≡ h → runs_next past c ≡ b →
+idle-step : (k : ℕ) (x : Pair) (past : List Pair) (c : Course) (h : Bool) (b : Option Begun) → (c.holds ≡ false → c.runs ≡ None) → c.holds ≡ h →
+    runs_next past c ≡ b →
     (run_on k x past c b).holds ≡ false → (run_on k x past c b).runs ≡ None
 idle-step k x past c h None idle is next off = idle off
 idle-step k x past c true (Some begun) idle is next off = idle-of c begun (length past) (ending_now k begun (x ∷ past)) is off
@@ -196,7 +202,8 @@ pub none-yielded : (tick : ℕ) (attempts : List Attempt) → Before tick attemp
 none-yielded tick [] h = refl
 none-yielded tick (a ∷ attempts) h = (let no : (a.ended.0 == tick) ≡ false = grind (arith, nat_tests, h) in rw no refl)
 
-pub one-told : (address tick : ℕ) (a : Attempt) (attempts : List Attempt) → a.ended.0 ≡ tick → ended_in address tick (a ∷ attempts) ≡ record a { station = address } ∷ []
+pub one-told : (address tick : ℕ) (a : Attempt) (attempts : List Attempt) → a.ended.0 ≡ tick →
+    ended_in address tick (a ∷ attempts) ≡ record a { station = address } ∷ []
 one-told address tick a attempts h = (let here : (a.ended.0 == tick) ≡ true = grind (arith, nat_tests, h) in rw here refl)
 
 pub one-yielded : (tick : ℕ) (a : Attempt) (attempts : List Attempt) → a.ended.0 ≡ tick → yielded_in tick (a ∷ attempts) ≡ is_yielded a.outcome
@@ -210,7 +217,8 @@ yields-of c begun tick (Some e) before y =
     let a : Attempt = attempt_of begun e tick (finishes (next_of begun.entry.item begun.state e.outcome)) in
     yielded-gives e.outcome (sym (one-yielded tick a c.ended refl) ∙ y)
 
-yields-by : (k : ℕ) (x : Pair) (past : List Pair) (c : Course) (b : Option Begun) → Before (length past) c.ended → yielded_in (length past) (run_on k x past c b).ended ≡ true →
+yields-by : (k : ℕ) (x : Pair) (past : List Pair) (c : Course) (b : Option Begun) → Before (length past) c.ended →
+    yielded_in (length past) (run_on k x past c b).ended ≡ true →
     (run_on k x past c b).holds ≡ false
 yields-by k x past c None before y = (let no = none-yielded (length past) c.ended before in cc)
 yields-by k x past c (Some begun) before y = yields-of c begun (length past) (ending_now k begun (x ∷ past)) before y

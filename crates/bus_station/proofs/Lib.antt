@@ -2,3 +2,13 @@ pub mod Courses
 pub mod Quiet
 pub mod Offers
 pub mod SoFar
+pub mod Ticks
+pub mod Serving
+pub mod Holding
+pub mod Shown
+pub mod Fitting
+pub mod Outside
+pub mod Starting
+pub mod LoadsMade
+pub mod Loading
+pub mod Loaded

@@ -1,5 +1,5 @@
 -- Control is accepted only where items are left.
-use Rattle.std.proofs.Common.{◌≡◌, ◌≢◌, ℕ, Bool, true, false, ◌&&◌, ◌||◌, List, [], ◌∷◌, length, Option, Some, None, refl, ap, ◌∙◌, inl, inr, ◌⊎◌, if◌then◌else◌}
+use Rattle.std.proofs.Common.{◌≡◌, ◌≢◌, ℕ, Bool, true, false, ◌&&◌, ◌||◌, List, [], ◌∷◌, length, Option, Some, None, refl, inl, inr, ◌⊎◌}
 use Rattle.bus_base.specs.declared.samples.Channel.{Channel}
 use Rattle.bus_base.specs.declared.samples.Sample.{Sample}
 use Rattle.bus_words.specs.Fields.{is_broadcast}
@@ -9,11 +9,11 @@ use Rattle.bus_formats.specs.Plans.{TerminalData}
 use Rattle.bus_formats.specs.declared.log.Registers.{Registers}
 use Rattle.bus_model.specs.Memory.{Memory, TimedLoad, is_off}
 use Rattle.bus_model.specs.Commands.{Tail, unexpected, relay_from, carries, tail_of, has_code, is_illegal}
-use Rattle.bus_model.specs.Orders.{Duty, free, owes, promises, Obeyed, answer, answered, carried_out, obey_data, obey_tail, obey, kept, keep_promise, accepts, answer_data, marked, mode_effect, reset, relayed, with_error, leaves, block_taken}
+use Rattle.bus_model.specs.Orders.{Duty, free, owes, promises, Obeyed, answer, answered, carried_out, obey_data, obey_tail, kept, accepts, answer_data, marked, mode_effect, reset, with_error}
 use Rattle.bus_model.specs.Starts.{Entry, has_items}
 use Rattle.bus_model.specs.Hearing.{Moment}
 use Rattle.bus_model.specs.Standing.{Standing, Handled, obeys, settles, runs_out}
-use Rattle.bus_model.specs.Terminal.{after_tick, after_order, done_by, ordered, order_now, kept_by, accepted_by, accepted_on, heard_status}
+use Rattle.bus_model.specs.Terminal.{after_tick, after_order, done_by, ordered, order_now, kept_by, accepted_by, accepted_on}
 use Rattle.bus_terminal.proofs.Standing.{by-test}
 
 -- an answer is owed that accepts control
@@ -66,12 +66,13 @@ module _ (t : TerminalData) (m : Memory) (c : Channel) (command : ℕ) where
 
   kept-may : (may : Bool) (words : Option (List ℕ)) → MayAccept may (kept t m c command words)
   kept-may may None h = cc
-  kept-may may (Some words) =
+  kept-may may (Some words) h =
       by-test (MayAccept may) (is_illegal t command) _ _
       (λ _. answered-may may (with_error t m c true) [])
-      (λ _ h. (let no : false ≡ true = answer-accepts t m.registers c command false [] h in cc))
+      (λ _ acc. (let no : false ≡ true = answer-accepts t m.registers c command false [] acc in cc)) h
 
-promise-may : (k : ℕ) (t : TerminalData) (m : Memory) (c : Channel) (may : Bool) (d : Duty) (slots : List (Option Word)) (rest : ℕ) → MayAccept may (kept_by k t m c d slots rest)
+promise-may : (k : ℕ) (t : TerminalData) (m : Memory) (c : Channel) (may : Bool) (d : Duty) (slots : List (Option Word)) (rest : ℕ) →
+    MayAccept may (kept_by k t m c d slots rest)
 promise-may k t m c may free slots rest h = cc
 promise-may k t m c may (owes words acceptance) slots rest h = cc
 promise-may k t m c may (promises command transmitter) slots rest h = kept-may t m c command may _ h

@@ -1,15 +1,14 @@
 -- A station over all that it heard: its takes, and what its terminal heard.
-use Rattle.std.proofs.Common.{◌≡◌, ℕ, suc, ◌+◌, ◌≤◌, Bool, true, false, ◌==◌, ◌&&◌, List, [], ◌∷◌, ◌++◌, length, Option, Some, None, refl, sym, ap, ◌∙◌, subst, arith, inl, inr, if◌then◌else◌}
+use Rattle.std.proofs.Common.{◌≡◌, ℕ, suc, Bool, true, false, List, [], ◌∷◌, ◌++◌, length, Option, Some, None, refl, sym, ap, ◌∙◌, subst, arith, inl, inr, if◌then◌else◌}
 use Rattle.bus_base.specs.declared.samples.Pair.{Pair}
 use Rattle.bus_formats.specs.Plans.{StationData}
-use Rattle.bus_model.specs.Memory.{TimedLoad}
-use Rattle.bus_model.specs.Orders.{Duty}
+use Rattle.bus_model.specs.Memory.{Memory, TimedLoad}
 use Rattle.bus_model.specs.Starts.{has_items}
 use Rattle.bus_model.specs.Hearing.{Moment, Hearing}
 use Rattle.bus_model.specs.Standing.{Standing}
 use Rattle.bus_model.specs.Terminal.{standing, accepted_now}
 use Rattle.bus_model.specs.Course.{Take, Course, course}
-use Rattle.bus_model.specs.Control.{OutsideTake, StationSoFar, so_far, so_far_after, hold, serve, taken_over, takes_in, outside_takes, is_outside, accepted_take, hear_more, moment_of, unheard, unheard_ticks, yielded_in, is_yielded}
+use Rattle.bus_model.specs.Control.{OutsideTake, StationSoFar, so_far, so_far_after, hold, serve, taken_over, takes_in, outside_takes, is_outside, accepted_take, hear_more, moment_of, unheard, unheard_ticks, yielded_in}
 use Rattle.bus_terminal.specs.Quiet.{quiet_moments}
 use Rattle.bus_terminal.proofs.Quiet.{standing-tick}
 use Rattle.bus_terminal.proofs.Waking.{quiet-length}
@@ -26,7 +25,8 @@ later-append now [] more f g = g
 later-append now (take ∷ takes) more f g = (f.0, later-append now takes more f.1 g)
 
 module _ (k : ℕ) (station : StationData) (starts : Bool) (loads : List TimedLoad) (outside : List OutsideTake) where
-  pub so_far-tick : (x : Pair) (past : List Pair) → so_far k station starts loads outside (x ∷ past) ≡ so_far_after k station starts loads outside x past (so_far k station starts loads outside past)
+  pub so_far-tick : (x : Pair) (past : List Pair) → so_far k station starts loads outside (x ∷ past) ≡ so_far_after k station starts loads outside x past
+      (so_far k station starts loads outside past)
   unfolding so_far
   so_far-tick x past = refl
 
@@ -52,8 +52,26 @@ module _ (k : ℕ) (station : StationData) (starts : Bool) (loads : List TimedLo
     pub later : NoneLater (length past) s.takes
     pub long : length s.hearing.ticks ≡ length past
     pub deaf : (course k station starts s.takes past).holds ≡ true → s.hearing.ticks ≡ quiet_moments (length past)
-    pub offers : (course k station starts s.takes past).holds ≡ false → accepting (standing k station.terminal loads s.hearing.memory s.hearing.ticks).duty ≡ true →
+    pub offers : (course k station starts s.takes past).holds ≡ false →
+        accepting (standing k station.terminal loads s.hearing.memory s.hearing.ticks).duty ≡ true →
         has_items (course k station starts s.takes past).left ≡ true
+
+  -- no answer is owed that accepts control where nothing was heard, or one tick
+  resting-silent : (memory : Memory) (ticks : List Moment) (n : ℕ) → ticks ≡ quiet_moments n →
+      accepting (standing k station.terminal loads memory ticks).duty ≡ true → ⊥
+  resting-silent memory ticks n rests acc =
+      let none : accepting (standing k station.terminal loads memory ticks).duty ≡ false =
+      ap (λ (quiet : List Moment). accepting (standing k station.terminal loads memory quiet).duty) rests
+      ∙ ap accepting (resting-free k station.terminal loads memory n) in
+      cc
+
+  woken-silent : (now : Moment) (memory : Memory) (ticks : List Moment) (n : ℕ) → ticks ≡ quiet_moments n →
+      accepting (standing k station.terminal loads memory (now ∷ ticks)).duty ≡ true → ⊥
+  woken-silent now memory ticks n rests acc =
+      let none : accepting (standing k station.terminal loads memory (now ∷ ticks)).duty ≡ false =
+      ap (λ (quiet : List Moment). accepting (standing k station.terminal loads memory (now ∷ quiet)).duty) rests
+      ∙ ap accepting (woken-free k station.terminal loads memory now n) in
+      cc
 
   -- what is heard while control is held, where it is yielded or not
   held-ticks : (x : Pair) (past : List Pair) (s : StationSoFar) (c : Course) (y : Bool) → (y ≡ true → c.holds ≡ false) → c.holds ≡ true →
@@ -70,12 +88,7 @@ module _ (k : ℕ) (station : StationData) (starts : Bool) (loads : List TimedLo
         later = later-more s.takes (length past) kept.later;
         long = ap suc kept.long;
         deaf = λ still. held-ticks x past s c y (yields-off k station starts s.takes x past kept.later) still (kept.deaf on);
-        offers = λ off acc. absurd (
-            let rests : (standing k station.terminal loads s.hearing.memory ((if y then moment_of x c else unheard) ∷ s.hearing.ticks)).duty
-            ≡ (standing k station.terminal loads s.hearing.memory ((if y then moment_of x c else unheard) ∷ quiet_moments (length past))).duty =
-            ap (λ (ticks : List Moment). (standing k station.terminal loads s.hearing.memory ((if y then moment_of x c else unheard) ∷ ticks)).duty) (kept.deaf on) in
-            let none = ap accepting (rests ∙ woken-free k station.terminal loads s.hearing.memory (if y then moment_of x c else unheard) (length past)) in
-            cc);
+        offers = λ off acc. absurd (woken-silent (if y then moment_of x c else unheard) s.hearing.memory s.hearing.ticks (length past) (kept.deaf on) acc);
       }
 
   -- a serving station that heard a tick, where nothing was taken in it
@@ -91,7 +104,8 @@ module _ (k : ℕ) (station : StationData) (starts : Bool) (loads : List TimedLo
         deaf = λ on. (let no = ap (λ (d : Course). d.holds) same in cc);
         offers = λ _ acc. ap (λ (d : Course). has_items d.left) same
             ∙ elim (tick-may k station.terminal loads (moment_of x c) s.hearing.ticks before
-            (ap (λ (after : Standing). accepting after.duty) (sym (standing-tick k station.terminal loads s.hearing.memory (moment_of x c) s.hearing.ticks)) ∙ acc)) [
+            (ap (λ (after : Standing). accepting after.duty)
+            (sym (standing-tick k station.terminal loads s.hearing.memory (moment_of x c) s.hearing.ticks)) ∙ acc)) [
               | inl owed ↦ kept.offers off owed
               | inr may ↦ may
             ];
@@ -107,10 +121,7 @@ module _ (k : ℕ) (station : StationData) (starts : Bool) (loads : List TimedLo
         later = later-append (suc (length past)) s.takes (take ∷ takes) (later-more s.takes (length past) kept.later) now;
         long = ap length rests ∙ quiet-length (suc (length past));
         deaf = λ _. rests;
-        offers = λ _ acc. (
-            let none = ap (λ (ticks : List Moment). accepting (standing k station.terminal loads _ ticks).duty) rests
-            ∙ ap accepting (resting-free k station.terminal loads _ (suc (length past))) in
-            cc);
+        offers = λ _ acc. absurd (resting-silent _ (unheard_ticks (x ∷ past)) (suc (length past)) rests acc);
       }
 
   keeps-more : (x : Pair) (past : List Pair) (s : StationSoFar) → Keeps s past → Keeps (so_far_after k station starts loads outside x past s) (x ∷ past)
@@ -126,4 +137,5 @@ module _ (k : ℕ) (station : StationData) (starts : Bool) (loads : List TimedLo
   pub keeps : (past : List Pair) → Keeps (so_far k station starts loads outside past) past
   unfolding so_far standing
   keeps [] = record { later = tt; long = refl; deaf = λ on. refl; offers = λ off acc. cc }
-  keeps (x ∷ past) = subst (λ (s : StationSoFar). Keeps s (x ∷ past)) (sym (so_far-tick x past)) (keeps-more x past (so_far k station starts loads outside past) (keeps past))
+  keeps (x ∷ past) = subst (λ (s : StationSoFar). Keeps s (x ∷ past)) (sym (so_far-tick x past))
+      (keeps-more x past (so_far k station starts loads outside past) (keeps past))

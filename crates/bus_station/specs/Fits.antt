@@ -1,5 +1,5 @@
 -- The numbers of a plan that a station rests on.
-use Rattle.std.specs.Prelude.{ℕ, ◌*◌, ◌≤◌, length}
+use Rattle.std.specs.Prelude.{◌*◌, ◌≤◌, length}
 use Rattle.bus_formats.specs.Plans.{StationData}
 use Rattle.bus_formats.specs.Accepted.{HasStationRanges, items_in}
 

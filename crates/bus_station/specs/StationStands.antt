@@ -1,9 +1,10 @@
 -- For which histories a station stands.
-use Rattle.std.specs.Prelude.{◌≡◌, ℕ, ◌<◌, Bool, List, [], ◌∷◌, length, ⊤}
+use Rattle.std.specs.Prelude.{◌≡◌, ℕ, ◌<◌, Bool, List, [], ◌∷◌, length, Option, None, if◌then◌else◌, ⊤}
 use Rattle.bus_base.specs.declared.samples.Pair.{Pair}
 use Rattle.bus_formats.specs.Plans.{StationData}
 use Rattle.bus_model.specs.Memory.{TimedLoad}
-use Rattle.bus_model.specs.Control.{OutsideTake, so_far, hearing_after, takes_control}
+use Rattle.bus_model.specs.Course.{Course, course}
+use Rattle.bus_model.specs.Control.{OutsideTake, StationSoFar, so_far, taking_from}
 use Rattle.bus_terminal.specs.Stands.{AreMade}
 use Rattle.bus_terminal.specs.TerminalStands.{TerminalStands}
 use Rattle.bus_controller.specs.ControllerStands.{ControllerStands}
@@ -17,20 +18,26 @@ abbrev pub AreTaken : ℕ → ℕ → List OutsideTake → Type 0
 AreTaken address now [] = ⊤
 AreTaken address now (take ∷ takes) = (take.address ≡ address → take.tick < now) × AreTaken address now takes
 
-pub record Stands (k : ℕ) (station : StationData) (starts : Bool) (loads : List TimedLoad) (outside : List OutsideTake) (value : Station) (past : List Pair) : Type 0 where
+-- the tick of the first command while control is being taken, before this tick
+abbrev pub taking_of : ℕ → Course → Option ℕ
+taking_of tick c = if c.holds then taking_from tick c.opening else None
+
+pub record Stands (k : ℕ) (station : StationData) (starts : Bool) (loads : List TimedLoad) (outside : List OutsideTake) (value : Station)
+    (past : List Pair) (s : StationSoFar) : Type 0 where
   pub address : value.address ≡ station.terminal.address
-  pub controller : ControllerStands k station starts (so_far k station starts loads outside past).takes value.controller past
-  pub terminal : TerminalStands k station.terminal loads value.terminal (hearing_after k station starts loads outside past)
-  pub taking : value.taking ≡ tick_of (takes_control k station starts loads outside past)
+  pub controller : ControllerStands k station starts s.takes value.controller past
+  pub terminal : TerminalStands k station.terminal loads value.terminal s.hearing
+  pub taking : value.taking ≡ tick_of (taking_of (length past) (course k station starts s.takes past))
   pub made : AreMade station.terminal.address (length past) loads
   pub taken : AreTaken station.terminal.address (length past) outside
 
 -- the station stands for what the channels showed, with the loads and the takes that were made so far
 unfoldable pub StationStands : ℕ → StationData → Bool → List TimedLoad → List OutsideTake → Station → List Pair → Type 0
-StationStands k station starts loads outside value past = Stands k station starts loads outside value past
+StationStands k station starts loads outside value past = Stands k station starts loads outside value past (so_far k station starts loads outside past)
 
 -- a station after one tick more, and what it told of that tick
-pub record AfterTick (k : ℕ) (station : StationData) (starts : Bool) (loads : List TimedLoad) (outside : List OutsideTake) (value : Station) (event : StationEvent) (shown : Pair) (past : List Pair) : Type 0 where
+pub record AfterTick (k : ℕ) (station : StationData) (starts : Bool) (loads : List TimedLoad) (outside : List OutsideTake) (value : Station)
+    (event : StationEvent) (shown : Pair) (past : List Pair) : Type 0 where
   pub stands : StationStands k station starts loads outside value (shown ∷ past)
   pub ended : attempts_told event ≡ ended_newest k station starts loads outside (shown ∷ past)
   pub took : delivery_told event ≡ delivered_newest k station starts loads outside (shown ∷ past)

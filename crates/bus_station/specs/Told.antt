@@ -1,5 +1,5 @@
 -- What a station tells of a tick: the attempt that ended in it, and the block that its terminal took in it.
-use Rattle.std.specs.Prelude.{ℕ, ◌==◌, if◌then◌else◌, Bool, List, [], ◌∷◌, length, Option, Some, None}
+use Rattle.std.specs.Prelude.{ℕ, ◌==◌, if◌then◌else◌, Bool, not, List, [], ◌∷◌, length, Option, Some, None}
 use Rattle.bus_base.specs.declared.samples.Pair.{Pair}
 use Rattle.bus_base.specs.declared.samples.Channel.{Channel}
 use Rattle.bus_formats.specs.Plans.{StationData}
@@ -9,7 +9,7 @@ use Rattle.bus_model.specs.Memory.{TimedLoad}
 use Rattle.bus_model.specs.Orders.{Taken}
 use Rattle.bus_model.specs.Hearing.{Moment, Hearing}
 use Rattle.bus_model.specs.Terminal.{standing, order_now, took_now}
-use Rattle.bus_model.specs.Control.{OutsideTake, moment_of, hear_more, holds_control, course_after, hearing_after}
+use Rattle.bus_model.specs.Control.{OutsideTake, moment_of, unheard, hear_more, yielded_in, holds_control, course_after, hearing_after}
 use Rattle.bus_terminal.specs.Stands.{channel_of}
 use Rattle.bus_station.specs.declared.event.StationEvent.{StationEvent}
 use Rattle.bus_station.specs.declared.event.StationEvent.TheVariants as events
@@ -57,9 +57,14 @@ module _ (k : ℕ) (station : StationData) (starts : Bool) (loads : List TimedLo
       (order_now k station.terminal (now ∷ hearing.ticks) (standing k station.terminal loads hearing.memory hearing.ticks)))
       (took_now k station.terminal loads (hear_more hearing now))
 
-  -- the block that the terminal of a serving station took in the newest tick; that of a station that holds control hears nothing
+  -- what the terminal hears in the newest tick: a serving station's all of it, and one that holds control only the tick in which it yields
+  abbrev pub heard_newest : Pair → List Pair → Moment
+  heard_newest shown past =
+      if not (holds_control k station starts loads outside past) then moment_of shown (course_after k station starts loads outside past)
+      else if yielded_in (length past) (course_after k station starts loads outside (shown ∷ past)).ended
+      then moment_of shown (course_after k station starts loads outside (shown ∷ past)) else unheard
+
+  -- the block that the station's terminal took whole in the newest tick
   abbrev pub delivered_newest : List Pair → Option Delivery
   delivered_newest [] = None
-  delivered_newest (shown ∷ past) =
-      if holds_control k station starts loads outside past then None
-      else delivery_in (moment_of shown (course_after k station starts loads outside past)) (hearing_after k station starts loads outside past)
+  delivered_newest (shown ∷ past) = delivery_in (heard_newest shown past) (hearing_after k station starts loads outside past)

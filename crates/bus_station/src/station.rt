@@ -16,6 +16,7 @@ ghost use Rattle.bus_terminal.specs.TerminalStands.{TerminalStands};
 ghost use Rattle.bus_controller.specs.AgendaOf.{IsAgendaOf};
 ghost use Rattle.bus_controller.specs.ControllerStands.{ControllerStands};
 ghost use Rattle.bus_station.specs.Fits.{StationFits};
+ghost use Rattle.bus_station.specs.Hears.{HeardBy};
 ghost use Rattle.bus_station.specs.Roles.{role_after};
 ghost use Rattle.bus_station.specs.Roles as roles;
 ghost use Rattle.bus_station.specs.Told.{attempts_told, delivery_told, ended_newest, delivered_newest};
@@ -95,9 +96,7 @@ impl Station {
             StationStands LAG plan starts loads outside self.old past → holds_control LAG plan starts loads outside past ≡ false → length past ≡ now.0 →
             AfterTick LAG plan starts loads outside self.new result heard past }
     {
-        let may_accept = has_items(&self.controller);
-        let _ = self.controller.hear(now, heard);
-        match self.terminal.hear(now, heard, may_accept) {
+        match self.listen(now, heard) {
             TerminalEvent::Nothing => StationEvent::Nothing,
             TerminalEvent::Took(delivery) => StationEvent::Took(delivery),
             TerminalEvent::Accepted => {
@@ -105,6 +104,24 @@ impl Station {
                 StationEvent::Nothing
             }
         }
+    }
+
+    // Terminal and controller hear a tick of a station that serves.
+    fn listen(&mut self, now: Tick, heard: Pair) -> TerminalEvent
+        requires { (plan : StationData) × (starts : Bool) × (loads : List TimedLoad) × (outside : List OutsideTake) × (past : List Pair)
+            × StationStands LAG plan starts loads outside self.old past × (length past ≡ now.0) × (now.0 < 2 ^ 60) }
+        ensures address { self.new.address ≡ self.old.address }
+        ensures taking { self.new.taking ≡ self.old.taking }
+        ensures controller { (station : StationData) (starts : Bool) (takes : List Take) (past : List Pair) →
+            ControllerStands LAG station starts takes self.old.controller past → ControllerStands LAG station starts takes self.new.controller (heard ∷ past) }
+        ensures terminal { (plan : StationData) (starts : Bool) (loads : List TimedLoad) (outside : List OutsideTake) (past : List Pair) →
+            StationStands LAG plan starts loads outside self.old past → length past ≡ now.0 →
+            HeardBy LAG plan.terminal loads self.new.terminal result (length past) (hearing_after LAG plan starts loads outside past)
+            (control.moment_of heard (course_after LAG plan starts loads outside past)) }
+    {
+        let may_accept = has_items(&self.controller);
+        let _ = self.controller.hear(now, heard);
+        self.terminal.hear(now, heard, may_accept)
     }
 
     // Control is taken, with the first command in this tick.
@@ -171,10 +188,13 @@ impl Station {
             × (length hearing.ticks ≡ now.0) × (now.0 < 2 ^ 60) }
         ensures address { self.new.address ≡ self.old.address }
         ensures controller { self.new.controller ≡ self.old.controller }
-        ensures terminal { (plan : TerminalData) (loads : List TimedLoad) (hearing : Hearing) (station : StationData) (starts : Bool) (takes : List Take) (past : List Pair) →
-            TerminalStands LAG plan loads self.old.terminal hearing → length hearing.ticks ≡ now.0 → ControllerStands LAG station starts takes self.old.controller past →
+        ensures terminal { (plan : TerminalData) (loads : List TimedLoad) (hearing : Hearing) (station : StationData) (starts : Bool) (takes : List Take)
+            (past : List Pair) →
+            TerminalStands LAG plan loads self.old.terminal hearing → length hearing.ticks ≡ now.0 →
+            ControllerStands LAG station starts takes self.old.controller past →
             TerminalStands LAG plan loads self.new.terminal
-            (control.hear_more hearing (if control.is_yielded outcome then control.moment_of heard (course LAG station starts takes past) else control.unheard)) }
+            (control.hear_more hearing (if control.is_yielded outcome then control.moment_of heard
+            (course LAG station starts takes past) else control.unheard)) }
     {
         if is_yielded(outcome) {
             let may_accept = has_items(&self.controller);
@@ -218,6 +238,14 @@ impl Station {
         self.controller.is_yielded() || self.controller.is_idle()
     }
 
+    /// How many items are left: those of which no attempt was the last.
+    pub fn items_left(&self) -> u32
+        ensures { (plan : StationData) (starts : Bool) (loads : List TimedLoad) (outside : List OutsideTake) (past : List Pair) →
+            StationStands LAG plan starts loads outside self.now past → result ≡ length (course_after LAG plan starts loads outside past).left }
+    {
+        self.controller.items_left()
+    }
+
     /// Its terminal.
     pub fn terminal(&self) -> &Terminal
         ensures { (plan : StationData) (starts : Bool) (loads : List TimedLoad) (outside : List OutsideTake) (past : List Pair) →
@@ -252,8 +280,10 @@ impl Station {
             × ((course_after LAG plan starts loads outside (shown ∷ past)).left ≢ []) × (length past < first.0) }
         ensures { (plan : StationData) (starts : Bool) (loads : List TimedLoad) (outside : List OutsideTake) (shown : Pair) (past : List Pair) →
             StationStands LAG plan starts loads outside self.old (shown ∷ past) →
-            holds_control LAG plan starts loads outside past ≡ false → holds_control LAG plan starts loads outside (shown ∷ past) ≡ false → length past < first.0 →
-            StationStands LAG plan starts loads (outside ++ record { tick = length past; address = plan.terminal.address; first = first.0 } ∷ []) self.new (shown ∷ past) }
+            holds_control LAG plan starts loads outside past ≡ false → holds_control LAG plan starts loads outside (shown ∷ past) ≡ false →
+            length past < first.0 →
+            StationStands LAG plan starts loads (outside ++ record { tick = length past; address = plan.terminal.address; first = first.0 } ∷ []) self.new
+            (shown ∷ past) }
     {
         self.take_over(first);
     }

@@ -53,7 +53,8 @@ over-before k x past due burst (Some end) e first at over =
     omega (arith, is, (end_since-is k past due end at).known, (ended-place k (x ∷ past) burst e).0)
 
 -- nothing that begins later ended
-due-later : (k : ℕ) (x : Sample) (past : List Sample) (due : ℕ) (burst : Burst) → length past < due → ended_now k (x ∷ past) ≡ Some burst → burst.first ≡ due → ⊥
+due-later : (k : ℕ) (x : Sample) (past : List Sample) (due : ℕ) (burst : Burst) → length past < due → ended_now k (x ∷ past) ≡ Some burst →
+    burst.first ≡ due → ⊥
 due-later k x past due burst early e first = omega (arith, early, first, (ended-place k (x ∷ past) burst e).0)
 
 -- ---- states without an answer that runs
@@ -62,7 +63,8 @@ or-other : (a b : Bool) → (a || b) ≡ true → a ≡ false → b ≡ true
 or-other true b h e = cc
 or-other false b h e = h
 
-rests-accepts : (k : ℕ) (terminal : TerminalData) (loads : List TimedLoad) (now : Moment) (past : List Moment) (s : Standing) (d : Duty) → rests k terminal past s d ≡ true →
+rests-accepts : (k : ℕ) (terminal : TerminalData) (loads : List TimedLoad) (now : Moment) (past : List Moment) (s : Standing) (d : Duty) →
+    rests k terminal past s d ≡ true →
     accepted_by k terminal loads (heard_on s.channel past) (sample_on now.shown s.channel) s d ≡ None
 rests-accepts k terminal loads now past s free h = refl
 rests-accepts k terminal loads now past s (promises command transmitter) h = refl
@@ -90,15 +92,18 @@ promised-accepts k terminal loads state now past s st =
     ap (accepted_by k terminal loads (heard_on s.channel past) (sample_on now.shown s.channel) s) st.waiting.duty
 
 -- where nothing is accepted, a state tells what its order tells
-pub next-silent : (k : ℕ) (terminal : TerminalData) (loads : List TimedLoad) (next : TerminalNext) (past : List Moment) (now : Moment) (s : Standing) (end : Option ℕ) →
+pub next-silent : (k : ℕ) (terminal : TerminalData) (loads : List TimedLoad) (next : TerminalNext) (past : List Moment) (now : Moment) (s : Standing)
+    (end : Option ℕ) →
     end ≡ None → NextStands k terminal loads next past now s None → NextStands k terminal loads next past now s end
 next-silent k terminal loads next past now s end e h = subst (λ (o : Option ℕ). NextStands k terminal loads next past now s o) (sym e) h
 
 -- ---- an answer that isn't given up
 
-kept-accepts : (k : ℕ) (terminal : TerminalData) (loads : List TimedLoad) (past : List Sample) (x : Sample) (s : Standing) (words : List Word) (acceptance : Bool) →
+pub kept-accepts : (k : ℕ) (terminal : TerminalData) (loads : List TimedLoad) (past : List Sample) (x : Sample) (s : Standing) (words : List Word)
+    (acceptance : Bool) →
     given_up k terminal past s ≡ false →
-    accepted_by k terminal loads past x s (owes words acceptance) ≡ (if acceptance then heard_status (due_after terminal s.end) (ended_now k (x ∷ past)) else None)
+    accepted_by k terminal loads past x s (owes words acceptance) ≡ (if acceptance then heard_status (due_after terminal s.end) (ended_now k
+    (x ∷ past)) else None)
 kept-accepts k terminal loads past x s words true kept = rw kept refl
 kept-accepts k terminal loads past x s words false kept = refl
 
@@ -109,7 +114,8 @@ owing-accepts k terminal loads state now past s st =
     let x : Sample = sample_on now.shown s.channel in
     let due : ℕ = due_after terminal s.end in
     let none : heard_status due (ended_now k (x ∷ heard)) ≡ None =
-    status-unless due (ended_now k (x ∷ heard)) (λ burst e first. due-later k x heard due burst (omega (arith, length-heard s.channel past, st.early)) e first) in
+    status-unless due (ended_now k (x ∷ heard)) (λ burst e first. due-later k x heard due burst (omega
+    (arith, length-heard s.channel past, st.early)) e first) in
     ap (accepted_by k terminal loads heard x s) st.sends.duty
     ∙ kept-accepts k terminal loads heard x s state.sends.answer.words.items state.sends.answer.acceptance st.kept
     ∙ either state.sends.answer.acceptance (heard_status due (ended_now k (x ∷ heard))) none where
@@ -140,7 +146,8 @@ some-if : (b : Bool) (n : ℕ) → b ≡ is_some (if b then Some n else None)
 some-if true n = refl
 some-if false n = refl
 
-told-status : (most own : ℕ) (told : Option HeardBurst) (o : Option Burst) (due : ℕ) → AreTold most own told o → is_status due told ≡ is_some (heard_status due o)
+told-status : (most own : ℕ) (told : Option HeardBurst) (o : Option Burst) (due : ℕ) → AreTold most own told o →
+    is_status due told ≡ is_some (heard_status due o)
 told-status most own None None due h = refl
 told-status most own None (Some burst) due h = absurd h
 told-status most own (Some told) None due h = absurd h
@@ -154,17 +161,20 @@ ears-told k own told heard past s A h = h.heard_a.burst
 ears-told k own told heard past s B h = h.heard_b.burst
 
 -- what the code tests of an answer that runs is what the definition says
-pub answering-accepts : (k : ℕ) (terminal : TerminalData) (loads : List TimedLoad) (state : Answering) (told : Listened) (now : Moment) (past : List Moment) (s : Standing)
+pub answering-accepts : (k : ℕ) (terminal : TerminalData) (loads : List TimedLoad) (state : Answering) (told : Listened) (now : Moment)
+    (past : List Moment) (s : Standing)
     (n due : ℕ) (accepted : Bool) →
     AnsweringStands k terminal loads state past s → AreListened k terminal.address told (now ∷ past) past s → length past ≡ n → due ≡ n - state.sent →
-    accepted ≡ (state.sends.answer.acceptance && is_status due (told_on state.sends.channel told)) → accepted ≡ is_some (accepted_on k terminal loads now past s)
+    accepted ≡ (state.sends.answer.acceptance && is_status due (told_on state.sends.channel told)) →
+    accepted ≡ is_some (accepted_on k terminal loads now past s)
 answering-accepts k terminal loads state told now past s n due accepted st listened here due_is is =
     let heard : List Sample = heard_on s.channel past in
     let x : Sample = sample_on now.shown s.channel in
     let first : ℕ = due_after terminal s.end in
     let begun : due ≡ first = omega (arith, st.sent, here, due_is) in
     let status : is_status first (told_on s.channel told) ≡ is_some (heard_status first (ended_now k (x ∷ heard))) =
-    told-status MOST_SLOTS terminal.address (told_on s.channel told) (ended_now k (x ∷ heard)) first (ears-told k terminal.address told (now ∷ past) past s s.channel listened) in
+    told-status MOST_SLOTS terminal.address (told_on s.channel told) (ended_now k (x ∷ heard)) first (ears-told k terminal.address told
+    (now ∷ past) past s s.channel listened) in
     is
     ∙ ap (λ (d : ℕ). state.sends.answer.acceptance && is_status d (told_on state.sends.channel told)) begun
     ∙ ap (λ (c : Channel). state.sends.answer.acceptance && is_status first (told_on c told)) (sym st.sends.channel)

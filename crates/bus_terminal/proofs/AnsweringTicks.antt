@@ -15,13 +15,10 @@ use Rattle.bus_model.specs.Standing.{Standing, superseded, ignored_from, mark_on
 use Rattle.bus_model.specs.Terminal.{marked_by, order_now, given_up, is_over, begins}
 use Rattle.bus_terminal.specs.Holding.{EarsStand, Listens, begins_on}
 use Rattle.bus_terminal.specs.Stands.{CommonStands, AnsweringStands, NextStands, StateStands, IsSending, TakenIs, AcceptedIs, rests}
-use Rattle.bus_terminal.specs.Steps.{answering_on, begins_told, accepted_told, accepted_event}
+use Rattle.bus_terminal.specs.Steps.{answering_on, begins_told, acceptance_told}
 use Rattle.bus_terminal.specs.declared.common.Common.{Common}
 use Rattle.bus_terminal.specs.declared.state.Sends.{Sends}
 use Rattle.bus_terminal.specs.declared.answering.Answering.{Answering}
-use Rattle.bus_terminal.specs.declared.state.TerminalEvent.{TerminalEvent}
-use Rattle.bus_terminal.specs.declared.state.TerminalNext.{TerminalNext}
-use Rattle.bus_terminal.specs.declared.state.TerminalEvent.TheVariants as events
 use Rattle.bus_terminal.proofs.Heard.{length-heard}
 use Rattle.bus_terminal.proofs.Within.{within-same}
 use Rattle.bus_terminal.proofs.Standing.{kept-when, rests-superseded}
@@ -29,30 +26,19 @@ use Rattle.bus_terminal.proofs.OwingTicks.{kept-parts}
 use Rattle.bus_terminal.proofs.Listened.{none-next, common-kept}
 use Rattle.bus_terminal.proofs.Ticks.{sent-of}
 
-event-still : (e : TerminalEvent) (accepted : Bool) (tick : ℕ) (c : Channel) (o : Option Taken) → TakenIs e tick c o → TakenIs (accepted_event e accepted) tick c o
-event-still events.Nothing true tick c o h = h
-event-still events.Nothing false tick c o h = h
-event-still (events.Took delivery) accepted tick c o h = h
-event-still events.Accepted accepted tick c o h = h
+-- a tick without an order tells whether control was accepted, and of no block
+acceptance-takes : (accepted : Bool) (tick : ℕ) (c : Channel) (o : Option Taken) → o ≡ None → TakenIs (acceptance_told accepted) tick c o
+acceptance-takes true tick c o h = h
+acceptance-takes false tick c o h = h
 
-event-accepted : (e : TerminalEvent) (accepted : Bool) (end : Option ℕ) → accepted ≡ is_some end → AcceptedIs e None → AcceptedIs (accepted_event e accepted) end
-event-accepted events.Nothing true end is h = sym is
-event-accepted events.Nothing false None is h = refl
-event-accepted events.Nothing false (Some end) is h = cc
-event-accepted (events.Took delivery) accepted end is h = tt
-event-accepted events.Accepted accepted end is h = cc
-
--- acceptance changes nothing else
-pub accepted-next : (k : ℕ) (terminal : TerminalData) (loads : List TimedLoad) (next : TerminalNext) (past : List Moment) (now : Moment) (s : Standing) (accepted : Bool) (end : Option ℕ) →
-    accepted ≡ is_some end → NextStands k terminal loads next past now s None → NextStands k terminal loads (accepted_told next accepted) past now s end
-accepted-next k terminal loads next past now s accepted end is h = record {
-  state = h.state;
-  taken = event-still next.event accepted (length past) _ _ h.taken;
-  accepted = event-accepted next.event accepted end is h.accepted;
-}
+acceptance-is : (accepted : Bool) (end : Option ℕ) → accepted ≡ is_some end → AcceptedIs (acceptance_told accepted) end
+acceptance-is true end is = sym is
+acceptance-is false None is = refl
+acceptance-is false (Some end) is = cc
 
 -- the answer begins in the tick in which nothing of it was sent
-begins-is : (k : ℕ) (terminal : TerminalData) (loads : List TimedLoad) (state : Answering) (past : List Moment) (s : Standing) → AnsweringStands k terminal loads state past s →
+begins-is : (k : ℕ) (terminal : TerminalData) (loads : List TimedLoad) (state : Answering) (past : List Moment) (s : Standing) →
+    AnsweringStands k terminal loads state past s →
     begins k terminal past s ≡ (state.sent == 0)
 begins-is k terminal loads state past s st =
     three (is_owed s.duty) (length past == due_after terminal s.end) (given_up k terminal (heard_on s.channel past) s) (ap is_owed st.sends.duty) st.kept
@@ -73,7 +59,8 @@ begins-channel : (b : Bool) (c d : Channel) → begins_on (begins_told b c) d �
 begins-channel true c d = refl
 begins-channel false c d = refl
 
-pub answering-listens : (k : ℕ) (terminal : TerminalData) (loads : List TimedLoad) (state : Answering) (past : List Moment) (s : Standing) → AnsweringStands k terminal loads state past s →
+pub answering-listens : (k : ℕ) (terminal : TerminalData) (loads : List TimedLoad) (state : Answering) (past : List Moment) (s : Standing) →
+    AnsweringStands k terminal loads state past s →
     Listens k terminal (begins_told (state.sent == 0) state.sends.channel) past s
 answering-listens k terminal loads state past s st = λ c.
     begins-channel (state.sent == 0) state.sends.channel c
@@ -95,7 +82,8 @@ same-self b c = both b (same_channel c c) (self c) where
   self A = refl
   self B = refl
 
-pub answer-mark : (k : ℕ) (terminal : TerminalData) (loads : List TimedLoad) (state : Answering) (past : List Moment) (now : Moment) (s : Standing) → AnsweringStands k terminal loads state past s →
+pub answer-mark : (k : ℕ) (terminal : TerminalData) (loads : List TimedLoad) (state : Answering) (past : List Moment) (now : Moment) (s : Standing) →
+    AnsweringStands k terminal loads state past s →
     mark_on (marked_by k terminal now past s s).sent s.channel ≡ Some (due_after terminal s.end)
 answer-mark k terminal loads state past now s st =
     let due : ℕ = due_after terminal s.end in
@@ -111,21 +99,29 @@ not-over : (o : Option ℕ) (b : Bool) → b ≡ is_none o → is_some o ≡ not
 not-over None b e = rw e refl
 not-over (Some end) b e = rw e refl
 
-answering-left : (k : ℕ) (terminal : TerminalData) (loads : List TimedLoad) (common : Common) (past : List Moment) (s : Standing) (sends : Sends) (sent : ℕ) (newer ignored : Bool) →
-    CommonStands k terminal loads common past s → IsSending sends s → newer ≡ superseded k s → heard_within (heard_on s.channel past) s.end (due_after terminal s.end) ≡ false →
-    is_over k terminal (heard_on s.channel past) s ≡ not ignored → due_after terminal s.end + sent ≡ length past → mark_on s.sent s.channel ≡ Some (due_after terminal s.end) →
+answering-left : (k : ℕ) (terminal : TerminalData) (loads : List TimedLoad) (common : Common) (past : List Moment) (s : Standing) (sends : Sends)
+    (sent : ℕ) (newer ignored : Bool) →
+    CommonStands k terminal loads common past s → IsSending sends s → newer ≡ superseded k s →
+    heard_within (heard_on s.channel past) s.end (due_after terminal s.end) ≡ false →
+    is_over k terminal (heard_on s.channel past) s ≡ not ignored → due_after terminal s.end + sent ≡ length past →
+    mark_on s.sent s.channel ≡ Some (due_after terminal s.end) →
     StateStands k terminal loads (answering_on common sends sent newer ignored) past s
 answering-left k terminal loads common past s sends sent true ignored same is newer_is within over at mark =
     record { common = same; rests_now = rests-superseded k terminal past s s.duty (sym newer_is) }
 answering-left k terminal loads common past s sends sent false false same is newer_is within over at mark =
-    record { common = same; rests_now = subst (λ (d : Duty). rests k terminal past s d ≡ true) (sym is.duty) (rw over (up (given_up k terminal (heard_on s.channel past) s))) } where
+    record {
+      common = same;
+      rests_now = subst (λ (d : Duty). rests k terminal past s d ≡ true) (sym is.duty) (rw over (up (given_up k terminal
+          (heard_on s.channel past) s)));
+    } where
       up : (a : Bool) → (a || true) ≡ true
       up true = refl
       up false = refl
 answering-left k terminal loads common past s sends sent false true same is newer_is within over at mark =
     record { common = same; sends = is; kept = kept-when k terminal past s (sym newer_is) within; runs = over; sent = at; marked = λ some. mark }
 
-pub answering-state : (k : ℕ) (terminal : TerminalData) (loads : List TimedLoad) (state : Answering) (common : Common) (past : List Moment) (now : Moment) (s : Standing) (sent : ℕ) (newer ignored : Bool) →
+pub answering-state : (k : ℕ) (terminal : TerminalData) (loads : List TimedLoad) (state : Answering) (common : Common) (past : List Moment)
+    (now : Moment) (s : Standing) (sent : ℕ) (newer ignored : Bool) →
     AnsweringStands k terminal loads state past s → common.plan ≡ state.common.plan → common.memory ≡ state.common.memory →
     EarsStand k terminal.address common.ears (now ∷ past) (marked_by k terminal now past s s) → sent ≡ suc state.sent →
     newer ≡ superseded k (marked_by k terminal now past s s) →
@@ -138,25 +134,30 @@ answering-state k terminal loads state common past now s sent newer ignored st p
     let mark : mark_on left.sent s.channel ≡ Some due = answer-mark k terminal loads state past now s st in
     let ignored_here : ignored ≡ ignored_from k (heard_on s.channel (now ∷ past)) (mark_on left.sent s.channel) =
     ignored_is ∙ ap (λ (c : Channel). ignored_from k (heard_on c (now ∷ past)) (mark_on left.sent c)) (sym st.sends.channel) in
-    let ignored_due : ignored ≡ is_none (end_since k (heard_on s.channel (now ∷ past)) due) = ignored_here ∙ ap (ignored_from k (heard_on s.channel (now ∷ past))) mark in
-    let late : nat_lt (length (heard_on s.channel past)) due ≡ false = le-ltb (length (heard_on s.channel past)) due (omega (arith, length-heard s.channel past, st.sent)) in
+    let ignored_due : ignored ≡ is_none (end_since k (heard_on s.channel (now ∷ past)) due) = ignored_here ∙ ap (ignored_from k (heard_on s.channel
+    (now ∷ past))) mark in
+    let late : nat_lt (length (heard_on s.channel past)) due ≡ false = le-ltb (length (heard_on s.channel past)) due (omega
+    (arith, length-heard s.channel past, st.sent)) in
     let within : heard_within (heard_on s.channel (now ∷ past)) s.end due ≡ false =
     within-same (sample_on now.shown s.channel) (heard_on s.channel past) s.end due (rw late (none (not (is_quiet (sample_on now.shown s.channel))))) old.1 in
-    answering-left k terminal loads common (now ∷ past) left state.sends sent newer ignored (common-kept k terminal loads state.common common past now s st.common plan memory hear)
+    answering-left k terminal loads common (now ∷ past) left state.sends sent newer ignored
+    (common-kept k terminal loads state.common common past now s st.common plan memory hear)
     (record { channel = st.sends.channel; end = st.sends.end; part = st.sends.part; duty = st.sends.duty }) newer_is within
     (not-over (end_since k (heard_on s.channel (now ∷ past)) due) ignored ignored_due) (omega (arith, st.sent, more)) mark where
       none : (b : Bool) → (b && false) ≡ false
       none true = refl
       none false = refl
 
-pub answering-none : (k : ℕ) (terminal : TerminalData) (loads : List TimedLoad) (state : Answering) (common : Common) (past : List Moment) (now : Moment) (s : Standing) (sent : ℕ) (newer ignored accepted : Bool) (end : Option ℕ) →
+pub answering-none : (k : ℕ) (terminal : TerminalData) (loads : List TimedLoad) (state : Answering) (common : Common) (past : List Moment)
+    (now : Moment) (s : Standing) (sent : ℕ) (newer ignored accepted : Bool) (end : Option ℕ) →
     accepted ≡ is_some end →
-    AnsweringStands k terminal loads state past s → order_now k terminal (now ∷ past) s ≡ None → common.plan ≡ state.common.plan → common.memory ≡ state.common.memory →
+    AnsweringStands k terminal loads state past s → order_now k terminal (now ∷ past) s ≡ None → common.plan ≡ state.common.plan →
+    common.memory ≡ state.common.memory →
     EarsStand k terminal.address common.ears (now ∷ past) (marked_by k terminal now past s s) → sent ≡ suc state.sent →
     newer ≡ superseded k (marked_by k terminal now past s s) →
     ignored ≡ ignored_from k (heard_on state.sends.channel (now ∷ past)) (mark_on (marked_by k terminal now past s s).sent state.sends.channel) →
-    NextStands k terminal loads (accepted_told (record { state = answering_on common state.sends sent newer ignored; event = events.Nothing }) accepted) past now s end
+    NextStands k terminal loads (record { state = answering_on common state.sends sent newer ignored; event = acceptance_told accepted }) past now s end
 answering-none k terminal loads state common past now s sent newer ignored accepted end is st none plan memory hear more newer_is ignored_is =
-    accepted-next k terminal loads (record { state = answering_on common state.sends sent newer ignored; event = events.Nothing }) past now s accepted end is
-    (none-next k terminal loads (answering_on common state.sends sent newer ignored) past now s none
-    (answering-state k terminal loads state common past now s sent newer ignored st plan memory hear more newer_is ignored_is))
+    let quiet = none-next k terminal loads (answering_on common state.sends sent newer ignored) past now s none
+    (answering-state k terminal loads state common past now s sent newer ignored st plan memory hear more newer_is ignored_is) in
+    record { state = quiet.state; taken = acceptance-takes accepted (length past) _ _ quiet.taken; accepted = acceptance-is accepted end is }

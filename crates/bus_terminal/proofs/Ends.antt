@@ -28,7 +28,7 @@ abbrev pub EndsIf : ℕ → List Moment → Standing → Option Handled → Type
 EndsIf k heard s None = ⊤
 EndsIf k heard s (Some order) = Ends k heard s order
 
-same-true : (a b : Channel) → same_channel a b ≡ true → a ≡ b
+pub same-true : (a b : Channel) → same_channel a b ≡ true → a ≡ b
 same-true A A h = refl
 same-true B B h = refl
 same-true A B h = cc
@@ -45,7 +45,8 @@ by-last k terminal heard s c burst (Some last) e =
     by-test (EndsIf k heard s) (outrun s c) None (Some (obeys c (end_of burst) last (rest_of burst))) (λ _. tt) (λ _. (burst, e, refl))
 by-last k terminal heard s c burst None e =
     by-test (EndsIf k heard s) (promised_on k s c && nat_le burst.first (s.end + relay_wait)) (Some (settles (end_of burst) burst.slots (rest_of burst))) None
-    (λ both. let on : s.channel ≡ c = same-true s.channel c (second-true (is_promise s.duty) (same_channel s.channel c) (not (superseded k s)) (nat_le burst.first (s.end + relay_wait)) both) in
+    (λ both. let on : s.channel ≡ c = same-true s.channel c (second-true (is_promise s.duty) (same_channel s.channel c) (not (superseded k s))
+    (nat_le burst.first (s.end + relay_wait)) both) in
     (burst, ap (λ (x : Channel). ended_now k (heard_on x heard)) on ∙ e, refl))
     (λ _. tt)
 
@@ -54,7 +55,8 @@ by-ended : (k : ℕ) (terminal : TerminalData) (heard : List Moment) (s : Standi
 by-ended k terminal heard s c None e = tt
 by-ended k terminal heard s c (Some burst) e = by-last k terminal heard s c burst (last_order terminal.address burst.slots) e
 
-on-ends : (k : ℕ) (terminal : TerminalData) (now : Moment) (past : List Moment) (s : Standing) (c : Channel) → EndsIf k (now ∷ past) s (order_on k terminal (now ∷ past) s c)
+on-ends : (k : ℕ) (terminal : TerminalData) (now : Moment) (past : List Moment) (s : Standing) (c : Channel) →
+    EndsIf k (now ∷ past) s (order_on k terminal (now ∷ past) s c)
 on-ends k terminal now past s c =
     by-test (EndsIf k (now ∷ past) s) (ignored_from k (heard_on c past) (mark_on s.sent c)) None
     (order_of k terminal s c (ended_now k (heard_on c (now ∷ past)))) (λ _. tt)
@@ -68,13 +70,15 @@ out-ends : (k : ℕ) (heard : List Moment) (s : Standing) (b : Bool) → EndsIf 
 out-ends k heard s true = tt
 out-ends k heard s false = tt
 
-pub now-ends : (k : ℕ) (terminal : TerminalData) (now : Moment) (past : List Moment) (s : Standing) (order : Handled) → order_now k terminal (now ∷ past) s ≡ Some order →
+pub now-ends : (k : ℕ) (terminal : TerminalData) (now : Moment) (past : List Moment) (s : Standing) (order : Handled) →
+    order_now k terminal (now ∷ past) s ≡ Some order →
     Ends k (now ∷ past) s order
 now-ends k terminal now past s order e =
     let all : EndsIf k (now ∷ past) s (order_now k terminal (now ∷ past) s) =
     either-ends k (now ∷ past) s (order_on k terminal (now ∷ past) s A) _ (on-ends k terminal now past s A)
     (either-ends k (now ∷ past) s (order_on k terminal (now ∷ past) s B) _ (on-ends k terminal now past s B)
-    (out-ends k (now ∷ past) s (promised_on k s s.channel && (length (now ∷ past) == suc (s.end + relay_wait)) && not (heard_within (heard_on s.channel (now ∷ past)) s.end (length (now ∷ past)))))) in
+    (out-ends k (now ∷ past) s (promised_on k s s.channel && (length (now ∷ past) == suc (s.end + relay_wait)) && not (heard_within
+    (heard_on s.channel (now ∷ past)) s.end (length (now ∷ past)))))) in
     subst (EndsIf k (now ∷ past) s) e all
 
 -- ---- the ticks since
@@ -86,5 +90,6 @@ some-test false x y e = (let none : None ≡ Some y = e in cc)
 pub ended-place : (k : ℕ) (past : List Sample) (burst : Burst) → ended_now k past ≡ Some burst → (length past ≡ end_of burst + suc k) × (quiet past ≡ suc k)
 ended-place k past burst e =
     let known : IsEndedNow k past burst.first burst.ticks = ended-known k past burst e in
-    let both : ((quiet past == suc k) && nat_lt 0 (stopped past)) ≡ true = some-test ((quiet past == suc k) && nat_lt 0 (stopped past)) (newest_burst k past) burst e in
+    let both : ((quiet past == suc k) && nat_lt 0 (stopped past)) ≡ true = some-test ((quiet past == suc k) && nat_lt 0 (stopped past))
+    (newest_burst k past) burst e in
     (omega (arith, known.now), grind (arith, nat_tests, both))

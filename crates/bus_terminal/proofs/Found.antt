@@ -42,7 +42,8 @@ settled : (k : ℕ) (terminal : TerminalData) (s : Standing) (c : Channel) (w : 
 settled k terminal s c w told_burst burst false is end rest slots = tt
 settled k terminal s c w told_burst burst true is end rest slots = record { waiting = is; end_is = end; slots_are = slots; rest_is = rest }
 
-without : (k : ℕ) (terminal : TerminalData) (s : Standing) (c : Channel) (waiting : Option Waiting) (told_burst : HeardBurst) (burst : Burst) → Awaits k waiting s →
+without : (k : ℕ) (terminal : TerminalData) (s : Standing) (c : Channel) (waiting : Option Waiting) (told_burst : HeardBurst) (burst : Burst) →
+    Awaits k waiting s →
     IsToldBurst MOST_SLOTS terminal.address told_burst burst → told_burst.slots.items ≡ take MOST_SLOTS burst.slots →
     AreHandled (settles_with c waiting told_burst) (order_by k terminal s c burst None) s
 without k terminal s c None told_burst burst none is slots = rw (none c) tt
@@ -55,7 +56,8 @@ without k terminal s c (Some w) told_burst burst awaits is slots =
     (sym test)
     (settled k terminal s c w told_burst burst (same_channel w.channel c && nat_le told_burst.first (w.end + relay_wait)) awaits.0 is.end is.rest slots)
 
-commanded : (k : ℕ) (terminal : TerminalData) (s : Standing) (c : Channel) (told_burst : HeardBurst) (burst : Burst) (b : Bool) (command : ℕ) (tail : List (Option Word)) →
+commanded : (k : ℕ) (terminal : TerminalData) (s : Standing) (c : Channel) (told_burst : HeardBurst) (burst : Burst) (b : Bool) (command : ℕ)
+    (tail : List (Option Word)) →
     IsToldBurst MOST_SLOTS terminal.address told_burst burst → told_burst.slots.items ≡ take MOST_SLOTS tail →
     AreHandled (if b then None else Some (told.Obeys c command told_burst))
     (if b then None else Some (obeys c (end_of burst) (record { command = command; tail = tail }) (rest_of burst))) s
@@ -63,15 +65,18 @@ commanded k terminal s c told_burst burst true command tail is slots = tt
 commanded k terminal s c told_burst burst false command tail is slots =
     record { channel_is = refl; end_is = is.end; command_is = refl; slots_are = slots; rest_is = is.rest }
 
-by-command : (k : ℕ) (terminal : TerminalData) (s : Standing) (c : Channel) (waiting : Option Waiting) (newer : Bool) (told_burst : HeardBurst) (burst : Burst) (command : Option ℕ) →
+by-command : (k : ℕ) (terminal : TerminalData) (s : Standing) (c : Channel) (waiting : Option Waiting) (newer : Bool) (told_burst : HeardBurst)
+    (burst : Burst) (command : Option ℕ) →
     Awaits k waiting s → newer ≡ outrun s c → IsToldBurst MOST_SLOTS terminal.address told_burst burst →
     Holds MOST_SLOTS terminal.address command told_burst.slots.items burst.slots →
     AreHandled (order_with c newer waiting told_burst command) (order_by k terminal s c burst (last_order terminal.address burst.slots)) s
-by-command k terminal s c waiting newer told_burst burst None awaits older is (none, slots) = rw none (without k terminal s c waiting told_burst burst awaits is slots)
+by-command k terminal s c waiting newer told_burst burst None awaits older is (none, slots) = rw none
+    (without k terminal s c waiting told_burst burst awaits is slots)
 by-command k terminal s c waiting newer told_burst burst (Some command) awaits older is (tail, found, slots) =
     rw (found, older) (commanded k terminal s c told_burst burst (outrun s c) command tail is slots)
 
-by-burst : (k : ℕ) (terminal : TerminalData) (s : Standing) (c : Channel) (waiting : Option Waiting) (newer : Bool) (ignored : Bool) (t : Option HeardBurst) (o : Option Burst) →
+by-burst : (k : ℕ) (terminal : TerminalData) (s : Standing) (c : Channel) (waiting : Option Waiting) (newer : Bool) (ignored : Bool)
+    (t : Option HeardBurst) (o : Option Burst) →
     Awaits k waiting s → newer ≡ outrun s c → AreTold MOST_SLOTS terminal.address t o →
     AreHandled (if ignored then None else order_from c newer waiting t) (if ignored then None else order_of k terminal s c o) s
 by-burst k terminal s c waiting newer true t o awaits older are = tt
@@ -82,7 +87,8 @@ by-burst k terminal s c waiting newer false (Some told_burst) (Some burst) await
     by-command k terminal s c waiting newer told_burst burst told_burst.command awaits older are are.slots
 
 -- the order on one channel
-pub order-found : (k : ℕ) (terminal : TerminalData) (past : List Moment) (moment : Moment) (s : Standing) (c : Channel) (heard : Heard) (newer : Bool) (waiting : Option Waiting) →
+pub order-found : (k : ℕ) (terminal : TerminalData) (past : List Moment) (moment : Moment) (s : Standing) (c : Channel) (heard : Heard) (newer : Bool)
+    (waiting : Option Waiting) →
     IsHeard k MOST_SLOTS terminal.address heard (heard_on c (moment ∷ past)) (ignored_from k (heard_on c past) (mark_on s.sent c)) →
     newer ≡ outrun s c → Awaits k waiting s →
     AreHandled (order_told c heard newer waiting) (order_on k terminal (moment ∷ past) s c) s
@@ -90,7 +96,8 @@ order-found k terminal past moment s c heard newer waiting is older awaits =
     rw is.ignored_is (by-burst k terminal s c waiting newer (ignored_from k (heard_on c past) (mark_on s.sent c)) heard.burst
     (ended_now k (heard_on c (moment ∷ past))) awaits older is.burst)
 
-either : (s : Standing) (a b : Option Handled) (o p : Option standing.Handled) → AreHandled a o s → AreHandled b p s → AreHandled (option_or a b) (option_or o p) s
+either : (s : Standing) (a b : Option Handled) (o p : Option standing.Handled) → AreHandled a o s → AreHandled b p s →
+    AreHandled (option_or a b) (option_or o p) s
 either s None b None p first second = second
 either s None b (Some order) p first second = absurd first
 either s (Some handled) b None p first second = absurd first
@@ -100,7 +107,8 @@ either s (Some handled) b (Some order) p first second = first
 abbrev pub RunsOut : ℕ → TerminalData → Option Waiting → Bool → List Moment → Standing → Type 0
 RunsOut k terminal waiting out heard s = AreHandled (if out then out_with waiting else None) (running_out k terminal heard s) s
 
-pub all-found : (k : ℕ) (terminal : TerminalData) (past : List Moment) (moment : Moment) (s : Standing) (heard : Listened) (waiting : Option Waiting) (out : Bool) →
+pub all-found : (k : ℕ) (terminal : TerminalData) (past : List Moment) (moment : Moment) (s : Standing) (heard : Listened) (waiting : Option Waiting)
+    (out : Bool) →
     AreListened k terminal.address heard (moment ∷ past) past s → Awaits k waiting s → RunsOut k terminal waiting out (moment ∷ past) s →
     AreHandled (handled_told heard waiting out) (order_now k terminal (moment ∷ past) s) s
 all-found k terminal past moment s heard waiting out are awaits last =

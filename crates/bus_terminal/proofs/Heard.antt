@@ -16,7 +16,8 @@ length-heard c [] = refl
 length-heard c (moment ∷ past) = ap suc (length-heard c past)
 
 -- an ear with the marks of the newest tick
-pub ear-lands : (k most own now : ℕ) (terminal : TerminalData) (past : List Moment) (s : Standing) (moment : Moment) (heard : Pair) (c : Channel) (ear : Ear) (b : Bool) →
+pub ear-lands : (k most own now : ℕ) (terminal : TerminalData) (past : List Moment) (s : Standing) (moment : Moment) (heard : Pair) (c : Channel)
+    (ear : Ear) (b : Bool) →
     terminal.address ≡ own → length past ≡ now → moment.shown ≡ heard → b ≡ (begins k terminal past s && same_channel s.channel c) →
     EarStands k most own ear (sample_on heard c ∷ heard_on c past) (sent_by now b (mark_on s.sent c))
     (addressed_by own now (slot_now k (sample_on heard c ∷ heard_on c past)) (ignored_from k (heard_on c past) (mark_on s.sent c)) (mark_on s.addressed c)) →

@@ -3,9 +3,13 @@ pub mod Short
 pub mod Found
 pub mod Performing
 pub mod Within
+pub mod Newest
 pub mod Loads
 pub mod Standing
 pub mod Ends
+pub mod Newer
+pub mod Heeding
+pub mod Awaited
 pub mod Acting
 pub mod Nexts
 pub mod Ticks
@@ -14,6 +18,8 @@ pub mod OwingTicks
 pub mod PromisedTicks
 pub mod AnsweringTicks
 pub mod Accepting
+pub mod Alone
+pub mod TickLaws
 pub mod Quiet
 pub mod Shows
 pub mod Waking

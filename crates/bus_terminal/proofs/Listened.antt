@@ -25,15 +25,19 @@ pub found-free : (k : ℕ) (terminal : TerminalData) (past : List Moment) (now :
 found-free k terminal past now s heard awaits told =
     all-found k terminal past now s heard None false told awaits (none-out k terminal (now ∷ past) s awaits)
 
-pub rests-heard : (k : ℕ) (terminal : TerminalData) (loads : List TimedLoad) (state : Listening) (past : List Moment) (now : Moment) (s : Standing) (heard : Listened) →
+pub rests-heard : (k : ℕ) (terminal : TerminalData) (loads : List TimedLoad) (state : Listening) (past : List Moment) (now : Moment) (s : Standing)
+    (heard : Listened) →
     ListeningStands k terminal loads state past s → AreListened k terminal.address heard (now ∷ past) past s →
     AreHandled (handled_told heard None false) (order_now k terminal (now ∷ past) s) s
 rests-heard k terminal loads state past now s heard st told = found-free k terminal past now s heard (rests-awaits k terminal past s st.rests_now) told
 
-pub fits-of : (k : ℕ) (terminal : TerminalData) (loads : List TimedLoad) (common : Common) (past : List Moment) (now : Moment) (s : Standing) (handled : HandledTold) (order : Handled) (n : ℕ) →
-    CommonStands k terminal loads common past s → length past ≡ n → n < 2 ^ 60 → order_now k terminal (now ∷ past) s ≡ Some order → HandledIs handled order s → EndFits handled
+pub fits-of : (k : ℕ) (terminal : TerminalData) (loads : List TimedLoad) (common : Common) (past : List Moment) (now : Moment) (s : Standing)
+    (handled : HandledTold) (order : Handled) (n : ℕ) →
+    CommonStands k terminal loads common past s → length past ≡ n → n < 2 ^ 60 → order_now k terminal (now ∷ past) s ≡ Some order →
+    HandledIs handled order s → EndFits handled
 fits-of k terminal loads common past now s handled order n st here small is handled_is =
-    handled-fits k (now ∷ past) s handled order handled_is (now-ends k terminal now past s order is) (omega (arith, st.ended, here, small)) (omega (arith, here, small))
+    handled-fits k (now ∷ past) s handled order handled_is (now-ends k terminal now past s order is) (omega (arith, st.ended, here, small)) (omega
+    (arith, here, small))
 
 -- a state after a tick without an order, by its parts
 pub none-next : (k : ℕ) (terminal : TerminalData) (loads : List TimedLoad) (state : TerminalState) (past : List Moment) (now : Moment) (s : Standing) →
@@ -55,10 +59,13 @@ common-kept k terminal loads before common past now s st plan memory hear =
     let first : CommonStands k terminal loads (record { plan = before.plan; memory = before.memory; ears = common.ears }) (now ∷ past) left =
     common-same k terminal loads before common.ears past now s st hear in
     subst (λ (m : Memory). CommonStands k terminal loads (record { plan = common.plan; memory = m; ears = common.ears }) (now ∷ past) left) (sym memory)
-    (subst (λ (p : TerminalData). CommonStands k terminal loads (record { plan = p; memory = before.memory; ears = common.ears }) (now ∷ past) left) (sym plan) first)
+    (subst (λ (p : TerminalData). CommonStands k terminal loads (record { plan = p; memory = before.memory; ears = common.ears }) (now ∷ past) left)
+    (sym plan) first)
 
-pub rests-none : (k : ℕ) (terminal : TerminalData) (loads : List TimedLoad) (state : Listening) (common : Common) (past : List Moment) (now : Moment) (s : Standing) →
-    ListeningStands k terminal loads state past s → order_now k terminal (now ∷ past) s ≡ None → common.plan ≡ state.common.plan → common.memory ≡ state.common.memory →
+pub rests-none : (k : ℕ) (terminal : TerminalData) (loads : List TimedLoad) (state : Listening) (common : Common) (past : List Moment) (now : Moment)
+    (s : Standing) →
+    ListeningStands k terminal loads state past s → order_now k terminal (now ∷ past) s ≡ None → common.plan ≡ state.common.plan →
+    common.memory ≡ state.common.memory →
     EarsStand k terminal.address common.ears (now ∷ past) (marked_by k terminal now past s s) →
     NextStands k terminal loads (record { state = states.Listening record { common = common }; event = events.Nothing }) past now s None
 rests-none k terminal loads state common past now s st none plan memory hear =

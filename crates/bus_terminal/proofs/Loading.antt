@@ -41,7 +41,8 @@ made-load : (address now : ℕ) (loads : List TimedLoad) (load : TimedLoad) (m :
 made-load address now [] load m e h = rw (is-due address now load e h) refl
 made-load address now (first ∷ loads) load m e h = made-load address now loads load _ e h
 
-made-append : (address now : ℕ) (loads : List TimedLoad) (load : TimedLoad) → AreMade address now loads → load.tick < now → AreMade address now (loads ++ load ∷ [])
+made-append : (address now : ℕ) (loads : List TimedLoad) (load : TimedLoad) → AreMade address now loads → load.tick < now →
+    AreMade address now (loads ++ load ∷ [])
 made-append address now [] load made h = (λ e. h, tt)
 made-append address now (first ∷ loads) load made h = (made.0, made-append address now loads load made.1 h)
 
@@ -73,7 +74,8 @@ swallowed address now [] sub words m = twice m sub sub words words refl
 swallowed address now (load ∷ loads) sub words m =
     swallowed-by address now (load_due address now load) load loads sub words m (λ n. swallowed address now loads sub words n)
 
-absorbed-load : (address now : ℕ) (loads : List TimedLoad) (load : TimedLoad) (m : Memory) → load.address ≡ address → load.tick < now → with_loads address now loads m ≡ m →
+absorbed-load : (address now : ℕ) (loads : List TimedLoad) (load : TimedLoad) (m : Memory) → load.address ≡ address → load.tick < now →
+    with_loads address now loads m ≡ m →
     with_loads address now (loads ++ load ∷ []) (load_block m load.sub load.words) ≡ load_block m load.sub load.words
 absorbed-load address now loads load m e h has =
     made-load address now loads load (load_block m load.sub load.words) e h
@@ -87,14 +89,16 @@ none-made address (load ∷ loads) m = rw (not-due address 0 load (omega arith))
 
 -- ---- what stands
 
-ordered-load : (k : ℕ) (terminal : TerminalData) (loads : List TimedLoad) (load : TimedLoad) (tick : ℕ) (may : Bool) (s : Standing) (o : Option Handled) → tick ≤ load.tick →
+ordered-load : (k : ℕ) (terminal : TerminalData) (loads : List TimedLoad) (load : TimedLoad) (tick : ℕ) (may : Bool) (s : Standing)
+    (o : Option Handled) → tick ≤ load.tick →
     ordered k terminal (loads ++ load ∷ []) tick may s o ≡ ordered k terminal loads tick may s o
 ordered-load k terminal loads load tick may s None h = refl
 ordered-load k terminal loads load tick may s (Some order) h =
     ap (λ (m : Memory). after_order s order (done_by k terminal s m may order)) (late-load terminal.address tick loads load s.memory h)
 
 -- no order was handled after the load
-pub standing-load : (k : ℕ) (terminal : TerminalData) (loads : List TimedLoad) (load : TimedLoad) (memory : Memory) (past : List Moment) → length past ≤ suc load.tick →
+pub standing-load : (k : ℕ) (terminal : TerminalData) (loads : List TimedLoad) (load : TimedLoad) (memory : Memory) (past : List Moment) →
+    length past ≤ suc load.tick →
     standing k terminal (loads ++ load ∷ []) memory past ≡ standing k terminal loads memory past
 unfolding standing
 standing-load k terminal loads load memory [] h = refl
@@ -114,18 +118,24 @@ common-timed k terminal loads load common past s st e h = record {
   made = made-append terminal.address (length past) loads load st.made h;
   ears = st.ears;
   ended = st.ended;
+  marked = st.marked;
+  newest = st.newest;
 }
 
 pub common-at-once : (k : ℕ) (terminal : TerminalData) (loads : List TimedLoad) (common : Common) (memory : Memory) (sub : ℕ) (words : List ℕ) →
-    CommonStands k terminal loads common [] (at_rest memory) → CommonStands k terminal loads (loaded_common common sub words) [] (at_rest (load_block memory sub words))
+    CommonStands k terminal loads common [] (at_rest memory) →
+    CommonStands k terminal loads (loaded_common common sub words) [] (at_rest (load_block memory sub words))
 common-at-once k terminal loads common memory sub words st = record {
   plan = st.plan;
   fits = st.fits;
-  memory = ap (λ (m : Memory). load_block m sub words) (st.memory ∙ none-made terminal.address loads memory) ∙ sym (none-made terminal.address loads (load_block memory sub words));
+  memory = ap (λ (m : Memory). load_block m sub words) (st.memory ∙ none-made terminal.address loads memory) ∙ sym (none-made terminal.address loads
+      (load_block memory sub words));
   absorbed = none-made terminal.address loads (load_block common.memory sub words);
   made = st.made;
   ears = record { on_a = st.ears.on_a; on_b = st.ears.on_b };
   ended = st.ended;
+  marked = record { on = st.marked.on };
+  newest = λ left. (let no : false ≡ true = left in cc);
 }
 
 -- ---- the states
@@ -137,7 +147,8 @@ rests-kept k terminal past s m (promises command transmitter) h = h
 rests-kept k terminal past s m (owes words acceptance) h = h
 
 -- a state stands with another memory where what is common stands
-pub state-loaded : (k : ℕ) (terminal : TerminalData) (loads more : List TimedLoad) (state : TerminalState) (past : List Moment) (s : Standing) (m : Memory) (sub : ℕ) (words : List ℕ) →
+pub state-loaded : (k : ℕ) (terminal : TerminalData) (loads more : List TimedLoad) (state : TerminalState) (past : List Moment) (s : Standing)
+    (m : Memory) (sub : ℕ) (words : List ℕ) →
     StateStands k terminal loads state past s → CommonStands k terminal more (loaded_common (common_of state) sub words) past (record s { memory = m }) →
     StateStands k terminal more (loaded_state state sub words) past (record s { memory = m })
 state-loaded k terminal loads more (states.Listening state) past s m sub words st same =
@@ -148,6 +159,8 @@ state-loaded k terminal loads more (states.Promised state) past s m sub words st
   fresh = st.fresh;
   heard = st.heard;
   within = st.within;
+  awaited = st.awaited;
+  heeded = st.heeded;
 }
 state-loaded k terminal loads more (states.Owing state) past s m sub words st same = record {
   common = same;

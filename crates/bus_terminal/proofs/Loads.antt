@@ -30,7 +30,8 @@ pub loads-same : (address now : ℕ) (loads : List TimedLoad) (memory : Memory) 
     with_loads address (suc now) loads memory ≡ with_loads address now loads memory
 loads-same address now [] memory h = refl
 loads-same address now (load ∷ loads) memory h =
-    loads-same address now loads _ h.1 ∙ ap (λ (b : Bool). with_loads address now loads (if b then load_block memory load.sub load.words else memory)) (due-same address now load h.0)
+    loads-same address now loads _ h.1 ∙ ap (λ (b : Bool). with_loads address now loads (if b then load_block memory load.sub load.words else memory))
+    (due-same address now load h.0)
 
 -- ---- orders and loads
 
@@ -41,7 +42,8 @@ by-test P false x y f g = g
 abbrev Keeps : Memory → Obeyed → Type 0
 Keeps memory o = o.memory.transmit ≡ memory.transmit
 
-after-keeps : (memory : Memory) (registers : Registers) (taken : Option Taken) → (after_taking (record memory { registers = registers }) taken).transmit ≡ memory.transmit
+after-keeps : (memory : Memory) (registers : Registers) (taken : Option Taken) →
+    (after_taking (record memory { registers = registers }) taken).transmit ≡ memory.transmit
 after-keeps memory registers None = refl
 after-keeps memory registers (Some taken) = refl
 
@@ -51,19 +53,23 @@ data-keeps terminal memory c command words may registers =
     by-test (Keeps memory) (is_illegal terminal command) _ _ refl
     (by-test (Keeps memory) (has_code command 2) _ _ refl
     (by-test (Keeps memory) (has_code command 18) _ _ refl
-    (by-test (Keeps memory) (has_code command 8) _ _ refl (after-keeps memory (mode_effect (marked registers command false) c command words) (block_taken terminal command words)))))
+    (by-test (Keeps memory) (has_code command 8) _ _ refl (after-keeps memory (mode_effect (marked registers command false) c command words)
+    (block_taken terminal command words)))))
 
-tail-keeps : (terminal : TerminalData) (memory : Memory) (c : Channel) (command : ℕ) (may : Bool) (tail : Tail) → Keeps memory (obey_tail terminal memory c command may tail)
+tail-keeps : (terminal : TerminalData) (memory : Memory) (c : Channel) (command : ℕ) (may : Bool) (tail : Tail) →
+    Keeps memory (obey_tail terminal memory c command may tail)
 tail-keeps terminal memory c command may unexpected = refl
 tail-keeps terminal memory c command may (relay_from transmitter) = refl
 tail-keeps terminal memory c command may (carries words) = data-keeps terminal memory c command words may memory.registers
 
-kept-keeps : (terminal : TerminalData) (memory : Memory) (c : Channel) (command : ℕ) (words : Option (List ℕ)) → Keeps memory (kept terminal memory c command words)
+kept-keeps : (terminal : TerminalData) (memory : Memory) (c : Channel) (command : ℕ) (words : Option (List ℕ)) →
+    Keeps memory (kept terminal memory c command words)
 kept-keeps terminal memory c command None = refl
 kept-keeps terminal memory c command (Some words) =
     by-test (Keeps memory) (is_illegal terminal command) _ _ refl (after-keeps memory memory.registers (block_taken terminal command words))
 
-promise-keeps : (k : ℕ) (terminal : TerminalData) (memory : Memory) (c : Channel) (duty : Duty) (slots : List (Option Word)) (rest : ℕ) → Keeps memory (kept_by k terminal memory c duty slots rest)
+promise-keeps : (k : ℕ) (terminal : TerminalData) (memory : Memory) (c : Channel) (duty : Duty) (slots : List (Option Word)) (rest : ℕ) →
+    Keeps memory (kept_by k terminal memory c duty slots rest)
 promise-keeps k terminal memory c free slots rest = refl
 promise-keeps k terminal memory c (owes words acceptance) slots rest = refl
 promise-keeps k terminal memory c (promises command transmitter) slots rest = kept-keeps terminal memory c command _
@@ -82,7 +88,8 @@ load-like : (b : Bool) (load : TimedLoad) (m n : Memory) → m.transmit ≡ n.tr
 load-like true load m n e = rw e refl
 load-like false load m n e = e
 
-loads-like : (address now : ℕ) (loads : List TimedLoad) (m n : Memory) → m.transmit ≡ n.transmit → (with_loads address now loads m).transmit ≡ (with_loads address now loads n).transmit
+loads-like : (address now : ℕ) (loads : List TimedLoad) (m n : Memory) → m.transmit ≡ n.transmit →
+    (with_loads address now loads m).transmit ≡ (with_loads address now loads n).transmit
 loads-like address now [] m n e = e
 loads-like address now (load ∷ loads) m n e = loads-like address now loads _ _ (load-like (load_due address now load) load m n e)
 

@@ -42,23 +42,28 @@ event-taken tick c (Some taken) o e = (refl, refl, sym e)
 -- an order alone tells nothing of acceptance
 orders-silent : (tick : ℕ) (c : Channel) (t : Option Taken) → AcceptedIs (event_told tick c t) None
 orders-silent tick c None = refl
-orders-silent tick c (Some taken) = tt
+orders-silent tick c (Some taken) = refl
 
 order-channel : (s : Standing) (order : Handled) (o : Obeyed) → (after_order s order o).channel ≡ channel_of s (Some order)
 order-channel s (obeys c end order rest) o = refl
 order-channel s (settles end slots rest) o = refl
 order-channel s runs_out o = refl
 
-pub next-stands : (k : ℕ) (terminal : TerminalData) (loads : List TimedLoad) (before common : Common) (memory : Memory) (past : List Moment) (now : Moment) (s : Standing) (order : Handled)
+pub next-stands : (k : ℕ) (terminal : TerminalData) (loads : List TimedLoad) (before common : Common) (memory : Memory) (past : List Moment)
+    (now : Moment) (s : Standing) (order : Handled)
     (performed : Performed) (b may : Bool) (n tick : ℕ) (state : TerminalState) (event : TerminalEvent) →
     CommonStands k terminal loads before past s → order_now k terminal (now ∷ past) s ≡ Some order → common.plan ≡ before.plan → common.memory ≡ before.memory →
-    ((after : Standing) → EarsStand k terminal.address common.ears (now ∷ past) (marked_by k terminal now past s after)) → tick ≡ length past → now.may ≡ may → n ≡ suc tick →
+    ((after : Standing) → EarsStand k terminal.address common.ears (now ∷ past) (marked_by k terminal now past s after)) → tick ≡ length past →
+    now.may ≡ may → n ≡ suc tick →
     PerformedIs performed memory s order (done_by k common.plan s common.memory may order) →
-    ((left : Standing) → EarsStand k terminal.address common.ears (now ∷ past) left → left.channel ≡ performed.channel → left.end ≡ performed.end → b ≡ superseded k left) →
-    state ≡ stands_told (record { plan = common.plan; memory = memory; ears = common.ears }) b n performed.channel performed.end performed.part performed.done.duty →
+    ((left : Standing) → EarsStand k terminal.address common.ears (now ∷ past) left → left.channel ≡ performed.channel → left.end ≡ performed.end →
+    b ≡ superseded k left) →
+    state ≡ stands_told (record { plan = common.plan; memory = memory; ears = common.ears }) b n performed.channel performed.end performed.part
+    performed.done.duty →
     event ≡ event_told tick performed.channel performed.done.taken →
     NextStands k terminal loads (record { state = state; event = event }) past now s None
-next-stands k terminal loads before common memory past now s order performed b may n tick state event st is plan kept hear here may_is after_now does newer state_is event_is =
+next-stands k terminal loads before common memory past now s order performed b may n tick state event st is plan kept hear here may_is after_now does
+    newer state_is event_is =
     let o : Obeyed = done_by k terminal s before.memory now.may order in
     let same : done_by k common.plan s common.memory may order ≡ o =
     ap (λ (p : TerminalData). done_by k p s common.memory may order) (plan ∙ st.plan)
@@ -67,16 +72,20 @@ next-stands k terminal loads before common memory past now s order performed b m
     let done : PerformedIs performed memory s order o = subst (λ (x : Obeyed). PerformedIs performed memory s order x) same does in
     let left : Standing = marked_by k terminal now past s (after_order s order o) in
     let heard : EarsStand k terminal.address common.ears (now ∷ past) left = hear (after_order s order o) in
-    let on : TerminalState = stands_told (record { plan = before.plan; memory = memory; ears = common.ears }) b n performed.channel performed.end performed.part performed.done.duty in
+    let on : TerminalState = stands_told
+    (record { plan = before.plan; memory = memory; ears = common.ears }) b n performed.channel performed.end performed.part performed.done.duty in
     let state_on : state ≡ on =
-    state_is ∙ ap (λ (p : TerminalData). stands_told (record { plan = p; memory = memory; ears = common.ears }) b n performed.channel performed.end performed.part performed.done.duty) plan in
+    state_is ∙ ap (λ (p : TerminalData). stands_told
+    (record { plan = p; memory = memory; ears = common.ears }) b n performed.channel performed.end performed.part performed.done.duty) plan in
     let stands : StateStands k terminal loads on (now ∷ past) left =
     acted k terminal loads before memory common.ears past now s order performed b n st is (after_now ∙ ap suc here) done heard
     (newer left heard (sym done.channel) (sym done.end)) in
     let channel : performed.channel ≡ channel_of s (order_now k terminal (now ∷ past) s) =
     done.channel ∙ order-channel s order o ∙ ap (channel_of s) (sym is) in
-    let told : TakenIs (event_told tick performed.channel performed.done.taken) tick performed.channel o.taken = event-taken tick performed.channel performed.done.taken o.taken done.done.taken in
-    let told_here : TakenIs (event_told tick performed.channel performed.done.taken) (length past) (channel_of s (order_now k terminal (now ∷ past) s)) o.taken =
+    let told : TakenIs (event_told tick performed.channel performed.done.taken) tick performed.channel o.taken = event-taken tick performed.channel
+    performed.done.taken o.taken done.done.taken in
+    let told_here : TakenIs (event_told tick performed.channel performed.done.taken) (length past) (channel_of s (order_now k terminal
+    (now ∷ past) s)) o.taken =
     subst (λ (c : Channel). TakenIs (event_told tick performed.channel performed.done.taken) (length past) c o.taken) channel
     (subst (λ (t : ℕ). TakenIs (event_told tick performed.channel performed.done.taken) t performed.channel o.taken) here told) in
     record {

@@ -37,12 +37,14 @@ no-begin : (o d u : Bool) → d ≡ false → (o && d && u) ≡ false
 no-begin true d u h = rw h refl
 no-begin false d u h = refl
 
-pub early-begins : (k : ℕ) (terminal : TerminalData) (past : List Moment) (s : Standing) → length past < due_after terminal s.end → begins k terminal past s ≡ false
+pub early-begins : (k : ℕ) (terminal : TerminalData) (past : List Moment) (s : Standing) → length past < due_after terminal s.end →
+    begins k terminal past s ≡ false
 early-begins k terminal past s early =
     let early_test : (length past == due_after terminal s.end) ≡ false = grind (arith, nat_tests, early) in
     no-begin (is_owed s.duty) (length past == due_after terminal s.end) (not (given_up k terminal (heard_on s.channel past) s)) early_test
 
-pub owing-listens : (k : ℕ) (terminal : TerminalData) (loads : List TimedLoad) (state : Owing) (past : List Moment) (s : Standing) → OwingStands k terminal loads state past s → Listens k terminal None past s
+pub owing-listens : (k : ℕ) (terminal : TerminalData) (loads : List TimedLoad) (state : Owing) (past : List Moment) (s : Standing) →
+    OwingStands k terminal loads state past s → Listens k terminal None past s
 owing-listens k terminal loads state past s st = listens-none k terminal past s (early-begins k terminal past s st.early)
 
 -- neither part of what gives an answer up
@@ -54,7 +56,8 @@ pub kept-parts : (k : ℕ) (terminal : TerminalData) (past : List Moment) (s : S
     (superseded k s ≡ false) × (heard_within (heard_on s.channel past) s.end (due_after terminal s.end) ≡ false)
 kept-parts k terminal past s h = parts-false (superseded k s) (heard_within (heard_on s.channel past) s.end (due_after terminal s.end)) h
 
-sends-same : (k : ℕ) (terminal : TerminalData) (past : List Moment) (now : Moment) (s : Standing) (sends : Sends) → IsSending sends s → IsSending sends (marked_by k terminal now past s s)
+sends-same : (k : ℕ) (terminal : TerminalData) (past : List Moment) (now : Moment) (s : Standing) (sends : Sends) → IsSending sends s →
+    IsSending sends (marked_by k terminal now past s s)
 sends-same k terminal past now s sends is = record { channel = is.channel; end = is.end; part = is.part; duty = is.duty }
 
 last : (b : Bool) → ((b && true) || false) ≡ b
@@ -65,31 +68,41 @@ up : (a b : Bool) → ((a || true) || b) ≡ true
 up true b = refl
 up false b = refl
 
-owing-left : (k : ℕ) (terminal : TerminalData) (loads : List TimedLoad) (common : Common) (n : ℕ) (past : List Moment) (s : Standing) (sends : Sends) (heard newer : Bool) →
-    CommonStands k terminal loads common past s → n ≡ length past → IsSending sends s → heard_within (heard_on s.channel past) s.end (due_after terminal s.end) ≡ heard →
+owing-left : (k : ℕ) (terminal : TerminalData) (loads : List TimedLoad) (common : Common) (n : ℕ) (past : List Moment) (s : Standing) (sends : Sends)
+    (heard newer : Bool) →
+    CommonStands k terminal loads common past s → n ≡ length past → IsSending sends s →
+    heard_within (heard_on s.channel past) s.end (due_after terminal s.end) ≡ heard →
     newer ≡ superseded k s → length past ≤ due_after terminal s.end → StateStands k terminal loads (owing_on common n sends heard newer) past s
 owing-left k terminal loads common n past s sends true newer same here is within newer_is early =
-    record { common = same; rests_now = subst (λ (d : Duty). rests k terminal past s d ≡ true) (sym is.duty) (rw within (up (superseded k s) (is_over k terminal (heard_on s.channel past) s))) }
+    record {
+      common = same;
+      rests_now = subst (λ (d : Duty). rests k terminal past s d ≡ true) (sym is.duty) (rw within (up (superseded k s)
+          (is_over k terminal (heard_on s.channel past) s)));
+    }
 owing-left k terminal loads common n past s sends false true same here is within newer_is early =
     record { common = same; rests_now = rests-superseded k terminal past s s.duty (sym newer_is) }
 owing-left k terminal loads common n past s sends false false same here is within newer_is early =
     owes-stands k terminal loads common n past s sends same here is (kept-when k terminal past s (sym newer_is) within) early
 
-pub owing-none : (k : ℕ) (terminal : TerminalData) (loads : List TimedLoad) (state : Owing) (common : Common) (past : List Moment) (now : Moment) (s : Standing) (n : ℕ) (heard newer : Bool) →
-    OwingStands k terminal loads state past s → order_now k terminal (now ∷ past) s ≡ None → common.plan ≡ state.common.plan → common.memory ≡ state.common.memory →
+pub owing-none : (k : ℕ) (terminal : TerminalData) (loads : List TimedLoad) (state : Owing) (common : Common) (past : List Moment) (now : Moment)
+    (s : Standing) (n : ℕ) (heard newer : Bool) →
+    OwingStands k terminal loads state past s → order_now k terminal (now ∷ past) s ≡ None → common.plan ≡ state.common.plan →
+    common.memory ≡ state.common.memory →
     EarsStand k terminal.address common.ears (now ∷ past) (marked_by k terminal now past s s) → n ≡ suc (length past) →
     heard ≡ not (is_quiet (sample_on now.shown state.sends.channel)) → newer ≡ superseded k (marked_by k terminal now past s s) →
     NextStands k terminal loads (record { state = owing_on common n state.sends heard newer; event = events.Nothing }) past now s None
 owing-none k terminal loads state common past now s n heard newer st none plan memory hear here heard_is newer_is =
     let left : Standing = marked_by k terminal now past s s in
     let due : ℕ = due_after terminal s.end in
-    let same : CommonStands k terminal loads common (now ∷ past) left = common-kept k terminal loads state.common common past now s st.common plan memory hear in
+    let same : CommonStands k terminal loads common
+    (now ∷ past) left = common-kept k terminal loads state.common common past now s st.common plan memory hear in
     let sends : IsSending state.sends left = sends-same k terminal past now s state.sends st.sends in
     let old = kept-parts k terminal past s st.kept in
     let tick_heard : heard ≡ not (is_quiet (sample_on now.shown s.channel)) =
     heard_is ∙ ap (λ (c : Channel). not (is_quiet (sample_on now.shown c))) (sym st.sends.channel) in
     let late : s.end ≤ length (heard_on s.channel past) = omega (arith, length-heard s.channel past, st.common.ended) in
-    let early : nat_lt (length (heard_on s.channel past)) due ≡ true = lt-ltb (length (heard_on s.channel past)) due (omega (arith, length-heard s.channel past, st.early)) in
+    let early : nat_lt (length (heard_on s.channel past)) due ≡ true = lt-ltb (length (heard_on s.channel past)) due (omega
+    (arith, length-heard s.channel past, st.early)) in
     let within : heard_within (heard_on s.channel (now ∷ past)) s.end due ≡ heard =
     within-more (sample_on now.shown s.channel) (heard_on s.channel past) s.end due late
     ∙ (rw (early, old.1) (last (not (is_quiet (sample_on now.shown s.channel))))) ∙ sym tick_heard in

@@ -18,7 +18,8 @@ use Rattle.bus_terminal.specs.declared.handling.Waiting.{Waiting}
 use Rattle.bus_terminal.specs.declared.handling.Handled.TheVariants as told
 use Rattle.bus_terminal.proofs.Short.{obey-short, promise-short, words-fit, count-fits}
 
-pub performed-obeys : (k : ℕ) (terminal : TerminalData) (memory after : Memory) (s : Standing) (order : standing.Handled) (may : Bool) (c : Channel) (command : ℕ) (burst : HeardBurst) (done : Done) →
+pub performed-obeys : (k : ℕ) (terminal : TerminalData) (memory after : Memory) (s : Standing) (order : standing.Handled) (may : Bool) (c : Channel)
+    (command : ℕ) (burst : HeardBurst) (done : Done) →
     HandledIs (told.Obeys c command burst) order s → IsDone done after (obey terminal memory c command burst.slots.items burst.rest may) →
     PerformedIs (record { channel = c; end = burst.end; part = parts.First; done = done }) after s order (done_by k terminal s memory may order)
 performed-obeys k terminal memory after s (settles end slots rest) may c command burst done is d = absurd is
@@ -41,7 +42,8 @@ kept-with : (k : ℕ) (terminal : TerminalData) (memory : Memory) (c : Channel) 
     duty ≡ promises command transmitter → kept_by k terminal memory c duty slots rest ≡ keep_promise terminal memory c command transmitter slots rest
 kept-with k terminal memory c duty command transmitter rest slots is = ap (λ (d : Duty). kept_by k terminal memory c d slots rest) is
 
-pub performed-settles : (k : ℕ) (terminal : TerminalData) (memory after : Memory) (s : Standing) (order : standing.Handled) (may : Bool) (w : Waiting) (burst : HeardBurst) (done : Done) →
+pub performed-settles : (k : ℕ) (terminal : TerminalData) (memory after : Memory) (s : Standing) (order : standing.Handled) (may : Bool) (w : Waiting)
+    (burst : HeardBurst) (done : Done) →
     HandledIs (told.Settles w burst) order s →
     IsDone done after (keep_promise terminal memory w.channel w.promise.command w.promise.transmitter burst.slots.items burst.rest) →
     PerformedIs (record { channel = w.channel; end = burst.end; part = parts.Second; done = done }) after s order (done_by k terminal s memory may order)
@@ -63,7 +65,8 @@ performed-settles k terminal memory after s (settles end slots rest) may w burst
       part = λ owed. refl;
     }
 
-pub performed-runs_out : (k : ℕ) (terminal : TerminalData) (memory after : Memory) (s : Standing) (order : standing.Handled) (may : Bool) (w : Waiting) (done : Done) →
+pub performed-runs_out : (k : ℕ) (terminal : TerminalData) (memory after : Memory) (s : Standing) (order : standing.Handled) (may : Bool)
+    (w : Waiting) (done : Done) →
     HandledIs (told.RunsOut w) order s → ((plan : TerminalData) (c : Channel) → IsDone done after (unkept plan memory c)) →
     PerformedIs (record { channel = w.channel; end = w.end; part = parts.Second; done = done }) after s order (done_by k terminal s memory may order)
 performed-runs_out k terminal memory after s (obeys channel end order rest) may w done is d = absurd is

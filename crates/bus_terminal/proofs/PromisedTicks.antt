@@ -12,11 +12,11 @@ use Rattle.bus_model.specs.Waits.{relay_wait}
 use Rattle.bus_model.specs.Memory.{TimedLoad}
 use Rattle.bus_model.specs.Orders.{due_after}
 use Rattle.bus_model.specs.Hearing.{Moment, heard_on}
-use Rattle.bus_model.specs.Standing.{Standing, superseded, is_owed, promised_on, runs_out}
+use Rattle.bus_model.specs.Standing.{Standing, mark_on, ignored_from, superseded, is_owed, promised_on, runs_out}
 use Rattle.bus_model.specs.Terminal.{marked_by, order_now, given_up, running_out}
 use Rattle.bus_terminal.specs.Holding.{EarsStand, Listens}
 use Rattle.bus_terminal.specs.Handling.{handled_told, Awaits, AreHandled, IsWaiting, out_with}
-use Rattle.bus_terminal.specs.Stands.{CommonStands, PromisedStands, NextStands, StateStands}
+use Rattle.bus_terminal.specs.Stands.{CommonStands, PromisedStands, NextStands, StateStands, IsAwaited}
 use Rattle.bus_terminal.specs.Steps.{promised_on_told}
 use Rattle.bus_terminal.specs.declared.common.Common.{Common}
 use Rattle.bus_terminal.specs.declared.handling.Waiting.{Waiting}
@@ -30,16 +30,21 @@ use Rattle.bus_terminal.proofs.Standing.{rests-superseded}
 use Rattle.bus_terminal.proofs.Found.{promised-with}
 use Rattle.bus_terminal.proofs.Listened.{none-next, common-kept}
 use Rattle.bus_terminal.proofs.Ticks.{listens-none}
+use Rattle.bus_terminal.proofs.Heeding.{heeded-tick}
+use Rattle.bus_terminal.proofs.Awaited.{awaited-more}
 
 none-owed : (o d u : Bool) → o ≡ false → (o && d && u) ≡ false
 none-owed false d u h = refl
 none-owed true d u h = cc
 
-pub promised-listens : (k : ℕ) (terminal : TerminalData) (loads : List TimedLoad) (state : Promised) (past : List Moment) (s : Standing) → PromisedStands k terminal loads state past s → Listens k terminal None past s
+pub promised-listens : (k : ℕ) (terminal : TerminalData) (loads : List TimedLoad) (state : Promised) (past : List Moment) (s : Standing) →
+    PromisedStands k terminal loads state past s → Listens k terminal None past s
 promised-listens k terminal loads state past s st =
-    listens-none k terminal past s (none-owed (is_owed s.duty) (length past == due_after terminal s.end) (not (given_up k terminal (heard_on s.channel past) s)) (ap is_owed st.waiting.duty))
+    listens-none k terminal past s (none-owed (is_owed s.duty) (length past == due_after terminal s.end) (not (given_up k terminal
+    (heard_on s.channel past) s)) (ap is_owed st.waiting.duty))
 
-pub promised-awaits : (k : ℕ) (terminal : TerminalData) (loads : List TimedLoad) (state : Promised) (past : List Moment) (s : Standing) → PromisedStands k terminal loads state past s → Awaits k (Some state.waiting) s
+pub promised-awaits : (k : ℕ) (terminal : TerminalData) (loads : List TimedLoad) (state : Promised) (past : List Moment) (s : Standing) →
+    PromisedStands k terminal loads state past s → Awaits k (Some state.waiting) s
 promised-awaits k terminal loads state past s st = (st.waiting, st.fresh)
 
 -- what was heard since the relay's command burst, with one tick more
@@ -49,16 +54,21 @@ or-swap true false = refl
 or-swap false true = refl
 or-swap false false = refl
 
-pub heard-since : (k : ℕ) (terminal : TerminalData) (loads : List TimedLoad) (state : Promised) (past : List Moment) (now : Moment) (s : Standing) (now_heard : Bool) →
+pub heard-since : (k : ℕ) (terminal : TerminalData) (loads : List TimedLoad) (state : Promised) (past : List Moment) (now : Moment) (s : Standing)
+    (now_heard : Bool) →
     PromisedStands k terminal loads state past s → now_heard ≡ not (is_quiet (sample_on now.shown state.waiting.channel)) →
     heard_within (heard_on s.channel (now ∷ past)) s.end (suc (length past)) ≡ (state.heard || now_heard)
 heard-since k terminal loads state past now s now_heard st is =
     let c : Channel = s.channel in
-    let tick_heard : now_heard ≡ not (is_quiet (sample_on now.shown s.channel)) = is ∙ ap (λ (c : Channel). not (is_quiet (sample_on now.shown c))) (sym st.waiting.channel) in
-    let test : nat_lt (length (heard_on s.channel past)) (suc (length past)) ≡ true = lt-ltb (length (heard_on s.channel past)) (suc (length past)) (omega (arith, length-heard s.channel past)) in
+    let tick_heard : now_heard ≡ not (is_quiet (sample_on now.shown s.channel)) = is ∙ ap (λ (c : Channel). not (is_quiet (sample_on now.shown c)))
+    (sym st.waiting.channel) in
+    let test : nat_lt (length (heard_on s.channel past)) (suc (length past)) ≡ true = lt-ltb (length (heard_on s.channel past)) (suc (length past))
+    (omega (arith, length-heard s.channel past)) in
     let old : heard_within (heard_on s.channel past) s.end (suc (length past)) ≡ state.heard =
-    within-bound (heard_on s.channel past) s.end (suc (length past)) (length past) (omega (arith, length-heard s.channel past)) (omega (arith, length-heard s.channel past)) ∙ sym st.heard in
-    within-more (sample_on now.shown s.channel) (heard_on s.channel past) s.end (suc (length past)) (omega (arith, length-heard s.channel past, st.common.ended))
+    within-bound (heard_on s.channel past) s.end (suc (length past)) (length past) (omega (arith, length-heard s.channel past)) (omega
+    (arith, length-heard s.channel past)) ∙ sym st.heard in
+    within-more (sample_on now.shown s.channel) (heard_on s.channel past) s.end (suc (length past)) (omega
+    (arith, length-heard s.channel past, st.common.ended))
     ∙ (rw (test, old) (or-swap (not (is_quiet (sample_on now.shown s.channel))) state.heard)) ∙ ap (λ (b : Bool). state.heard || b) (sym tick_heard)
 
 -- the promise runs out where the code says so
@@ -76,16 +86,19 @@ suc-eq a b = elim (cases_Bool (a == b)) [
   | inr other ↦ grind (arith, nat_tests, other)
 ]
 
-pub runs-out : (k : ℕ) (terminal : TerminalData) (loads : List TimedLoad) (state : Promised) (past : List Moment) (now : Moment) (s : Standing) (since out : Bool) →
+pub runs-out : (k : ℕ) (terminal : TerminalData) (loads : List TimedLoad) (state : Promised) (past : List Moment) (now : Moment) (s : Standing)
+    (since out : Bool) →
     PromisedStands k terminal loads state past s → heard_within (heard_on s.channel (now ∷ past)) s.end (suc (length past)) ≡ since →
     out ≡ ((length past == (state.waiting.end + relay_wait)) && not since) →
     AreHandled (if out then out_with (Some state.waiting) else None) (running_out k terminal (now ∷ past) s) s
 runs-out k terminal loads state past now s since out st heard is =
     let promise : promised_on k s s.channel ≡ true =
-    promised-with k state.waiting s s.channel (st.waiting, st.fresh) ∙ ap (λ (c : Channel). same_channel c s.channel) (sym st.waiting.channel) ∙ same-channel-self s.channel in
+    promised-with k state.waiting s s.channel (st.waiting, st.fresh) ∙ ap (λ (c : Channel). same_channel c s.channel)
+    (sym st.waiting.channel) ∙ same-channel-self s.channel in
     let tick : (suc (length past) == suc (s.end + relay_wait)) ≡ (length past == (state.waiting.end + relay_wait)) =
     suc-eq (length past) (s.end + relay_wait) ∙ ap (λ (e : ℕ). length past == (e + relay_wait)) st.waiting.end in
-    let test : (promised_on k s s.channel && (suc (length past) == suc (s.end + relay_wait)) && not (heard_within (heard_on s.channel (now ∷ past)) s.end (suc (length past)))) ≡ out =
+    let test : (promised_on k s s.channel && (suc (length past) == suc (s.end + relay_wait)) && not (heard_within (heard_on s.channel
+    (now ∷ past)) s.end (suc (length past)))) ≡ out =
     rw (promise, tick, heard) (sym is) in
     rw test (out-last state.waiting s out st.waiting)
 
@@ -96,31 +109,42 @@ or-false false b h = refl
 not-yet : (n e : ℕ) (since out : Bool) → n ≤ e → since ≡ false → out ≡ ((n == e) && not since) → out ≡ false → suc n ≤ e
 not-yet n e since out low quiet_still is none = grind (arith, nat_tests, low, quiet_still, is, none)
 
-promised-left : (k : ℕ) (terminal : TerminalData) (loads : List TimedLoad) (common : Common) (past : List Moment) (s : Standing) (w : Waiting) (heard newer : Bool) →
+promised-left : (k : ℕ) (terminal : TerminalData) (loads : List TimedLoad) (common : Common) (past : List Moment) (s : Standing) (w : Waiting)
+    (heard newer : Bool) →
     CommonStands k terminal loads common past s → IsWaiting w s → heard ≡ heard_within (heard_on s.channel past) s.end (length past) → newer ≡ superseded k s →
-    (heard ≡ false → length past ≤ s.end + relay_wait) → StateStands k terminal loads (promised_on_told common w heard newer) past s
-promised-left k terminal loads common past s w heard true same is since newer_is within =
+    (heard ≡ false → length past ≤ s.end + relay_wait) → (heard ≡ true → IsAwaited k (heard_on s.channel past) s.end) →
+    ignored_from k (heard_on s.channel past) (mark_on s.sent s.channel) ≡ false → StateStands k terminal loads (promised_on_told common w heard newer) past s
+promised-left k terminal loads common past s w heard true same is since newer_is within awaited heeded =
     record { common = same; rests_now = rests-superseded k terminal past s s.duty (sym newer_is) }
-promised-left k terminal loads common past s w heard false same is since newer_is within =
-    record { common = same; waiting = is; fresh = sym newer_is; heard = since; within = within }
+promised-left k terminal loads common past s w heard false same is since newer_is within awaited heeded =
+    record { common = same; waiting = is; fresh = sym newer_is; heard = since; within = within; awaited = awaited; heeded = heeded }
 
-pub promised-none : (k : ℕ) (terminal : TerminalData) (loads : List TimedLoad) (state : Promised) (common : Common) (past : List Moment) (now : Moment) (s : Standing) (now_heard out newer : Bool) →
-    PromisedStands k terminal loads state past s → order_now k terminal (now ∷ past) s ≡ None → common.plan ≡ state.common.plan → common.memory ≡ state.common.memory →
+pub promised-none : (k : ℕ) (terminal : TerminalData) (loads : List TimedLoad) (state : Promised) (common : Common) (past : List Moment)
+    (now : Moment) (s : Standing) (now_heard out newer : Bool) →
+    PromisedStands k terminal loads state past s → order_now k terminal (now ∷ past) s ≡ None → common.plan ≡ state.common.plan →
+    common.memory ≡ state.common.memory →
     EarsStand k terminal.address common.ears (now ∷ past) (marked_by k terminal now past s s) →
-    now_heard ≡ not (is_quiet (sample_on now.shown state.waiting.channel)) → out ≡ ((length past == (state.waiting.end + relay_wait)) && not (state.heard || now_heard)) → out ≡ false →
+    now_heard ≡ not (is_quiet (sample_on now.shown state.waiting.channel)) →
+    out ≡ ((length past == (state.waiting.end + relay_wait)) && not (state.heard || now_heard)) → out ≡ false →
     newer ≡ superseded k (marked_by k terminal now past s s) →
-    NextStands k terminal loads (record { state = promised_on_told common state.waiting (state.heard || now_heard) newer; event = events.Nothing }) past now s None
+    NextStands k terminal loads (record {
+      state = promised_on_told common state.waiting
+          (state.heard || now_heard) newer;
+      event = events.Nothing;
+    }) past now s None
 promised-none k terminal loads state common past now s now_heard out newer st none plan memory hear heard_is out_is not_out newer_is =
     none-next k terminal loads (promised_on_told common state.waiting (state.heard || now_heard) newer) past now s none
     (promised-left k terminal loads common (now ∷ past) (marked_by k terminal now past s s) state.waiting (state.heard || now_heard) newer
     (common-kept k terminal loads state.common common past now s st.common plan memory hear)
-    (record { channel = st.waiting.channel; end = st.waiting.end; duty = st.waiting.duty }) (sym (heard-since k terminal loads state past now s now_heard st heard_is)) newer_is
+    (record { channel = st.waiting.channel; end = st.waiting.end; duty = st.waiting.duty }) (sym
+    (heard-since k terminal loads state past now s now_heard st heard_is)) newer_is
     (λ still. omega (
       arith,
       st.waiting.end,
       not-yet (length past) (state.waiting.end + relay_wait) (state.heard || now_heard) out
           (omega (arith, st.waiting.end, st.within (or-false state.heard now_heard still))) still out_is not_out,
-    )))
+    )) (awaited-more k terminal loads state past now s now_heard st none heard_is)
+    (heeded-tick k terminal now past s s s.channel (sym (promised-listens k terminal loads state past s st s.channel)) st.heeded))
 
 pub last-none : {X : Type 0} (a b : Option X) (x : X) (out : Bool) → option_or a (option_or b (if out then Some x else None)) ≡ None → out ≡ false
 last-none a b x false e = refl

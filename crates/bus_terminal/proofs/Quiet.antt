@@ -29,7 +29,8 @@ nothing : (k n : ℕ) → (ended_now k (Quiet ∷ quiet_ticks n) ≡ None) × (s
 nothing k n =
     subst (λ (cut : Cut). Tells k (Quiet ∷ quiet_ticks n) cut) (now-idle k (quiet_ticks n) (rests-alone k n)) (cut-tells k (Quiet ∷ quiet_ticks n))
 
-quiet-step : (k : ℕ) (t : TerminalData) (loads : List TimedLoad) (memory : Memory) (n : ℕ) → after_tick k t loads quiet_moment (quiet_moments n) (at_rest memory) ≡ at_rest memory
+quiet-step : (k : ℕ) (t : TerminalData) (loads : List TimedLoad) (memory : Memory) (n : ℕ) →
+    after_tick k t loads quiet_moment (quiet_moments n) (at_rest memory) ≡ at_rest memory
 quiet-step k t loads memory n =
     rw (quiet-heard A n, quiet-heard B n, (nothing k n).0) refl
 

@@ -43,7 +43,8 @@ relayed-short count transmitter m zero (slot ∷ slots) h =
       from (Some status) = rw (data-short count m slots h) refl
 relayed-short count transmitter m (suc rest) (slot ∷ slots) h = refl
 
-pub promise-short : (terminal : TerminalData) (memory : Memory) (c : Channel) (command transmitter m rest : ℕ) (slots : List (Option Word)) → word_count command < m →
+pub promise-short : (terminal : TerminalData) (memory : Memory) (c : Channel) (command transmitter m rest : ℕ) (slots : List (Option Word)) →
+    word_count command < m →
     keep_promise terminal memory c command transmitter (take (suc m) slots) rest ≡ keep_promise terminal memory c command transmitter slots rest
 promise-short terminal memory c command transmitter m rest slots h =
     ap (kept terminal memory c command) (relayed-short (word_count command) transmitter m rest slots h)

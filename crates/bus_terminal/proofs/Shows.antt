@@ -19,7 +19,8 @@ use Rattle.bus_terminal.specs.declared.state.TerminalState.{TerminalState}
 use Rattle.bus_terminal.specs.declared.state.TerminalState.TheVariants as states
 use Rattle.bus_terminal.proofs.Heard.{length-heard}
 
-pub state-common : (k : ℕ) (terminal : TerminalData) (loads : List TimedLoad) (state : TerminalState) (past : List Moment) (s : Standing) → StateStands k terminal loads state past s →
+pub state-common : (k : ℕ) (terminal : TerminalData) (loads : List TimedLoad) (state : TerminalState) (past : List Moment) (s : Standing) →
+    StateStands k terminal loads state past s →
     CommonStands k terminal loads (common_of state) past s
 state-common k terminal loads (states.Listening state) past s st = st.common
 state-common k terminal loads (states.Promised state) past s st = st.common
@@ -39,8 +40,10 @@ rests-silent : (k : ℕ) (terminal : TerminalData) (past : List Moment) (s : Sta
 rests-silent k terminal past s free h = refl
 rests-silent k terminal past s (promises command transmitter) h = refl
 rests-silent k terminal past s (owes words acceptance) h =
-    silent-if ((nat_lt (length (heard_on s.channel past)) (due_after terminal s.end) || given_up k terminal (heard_on s.channel past) s) || is_over k terminal (heard_on s.channel past) s) _
-    (last-true (nat_lt (length (heard_on s.channel past)) (due_after terminal s.end)) (given_up k terminal (heard_on s.channel past) s) (is_over k terminal (heard_on s.channel past) s) h)
+    silent-if ((nat_lt (length (heard_on s.channel past)) (due_after terminal s.end) || given_up k terminal
+    (heard_on s.channel past) s) || is_over k terminal (heard_on s.channel past) s) _
+    (last-true (nat_lt (length (heard_on s.channel past)) (due_after terminal s.end)) (given_up k terminal (heard_on s.channel past) s)
+    (is_over k terminal (heard_on s.channel past) s) h)
 
 drives-if : (b : Bool) (x : Drive) → b ≡ false → x ≡ (if b then Silent else x)
 drives-if true x h = cc
@@ -53,14 +56,17 @@ first-true : (a b c : Bool) → a ≡ true → ((a || b) || c) ≡ true
 first-true a b c e = rw e refl
 
 -- what it sends
-pub state-drives : (k : ℕ) (terminal : TerminalData) (loads : List TimedLoad) (state : TerminalState) (past : List Moment) (s : Standing) → StateStands k terminal loads state past s →
+pub state-drives : (k : ℕ) (terminal : TerminalData) (loads : List TimedLoad) (state : TerminalState) (past : List Moment) (s : Standing) →
+    StateStands k terminal loads state past s →
     drive_told state ≡ drive_of k terminal past s
 state-drives k terminal loads (states.Listening state) past s st = rests-silent k terminal past s s.duty st.rests_now
 state-drives k terminal loads (states.Promised state) past s st = ap (drive_duty k terminal (heard_on s.channel past) s) (sym st.waiting.duty)
 state-drives k terminal loads (states.Owing state) past s st =
-    silent-if ((nat_lt (length (heard_on s.channel past)) (due_after terminal s.end) || given_up k terminal (heard_on s.channel past) s) || is_over k terminal (heard_on s.channel past) s)
+    silent-if ((nat_lt (length (heard_on s.channel past)) (due_after terminal s.end) || given_up k terminal
+    (heard_on s.channel past) s) || is_over k terminal (heard_on s.channel past) s)
     (drive_sample s.channel s.part state.sends.answer.words.items (length (heard_on s.channel past) - due_after terminal s.end))
-    (first-true (nat_lt (length (heard_on s.channel past)) (due_after terminal s.end)) (given_up k terminal (heard_on s.channel past) s) (is_over k terminal (heard_on s.channel past) s)
+    (first-true (nat_lt (length (heard_on s.channel past)) (due_after terminal s.end)) (given_up k terminal (heard_on s.channel past) s)
+    (is_over k terminal (heard_on s.channel past) s)
     (lt-ltb (length (heard_on s.channel past)) (due_after terminal s.end) (omega (arith, length-heard s.channel past, st.early))))
     ∙ ap (drive_duty k terminal (heard_on s.channel past) s) (sym st.sends.duty)
 state-drives k terminal loads (states.Answering state) past s st =
@@ -69,8 +75,10 @@ state-drives k terminal loads (states.Answering state) past s st =
     ap (λ (c : Channel). drive_sample c state.sends.part words state.sent) (sym st.sends.channel)
     ∙ ap (λ (p : Part). drive_sample s.channel p words state.sent) (sym st.sends.part)
     ∙ ap (drive_sample s.channel s.part words) place
-    ∙ drives-if ((nat_lt (length (heard_on s.channel past)) (due_after terminal s.end) || given_up k terminal (heard_on s.channel past) s) || is_over k terminal (heard_on s.channel past) s)
+    ∙ drives-if ((nat_lt (length (heard_on s.channel past)) (due_after terminal s.end) || given_up k terminal
+    (heard_on s.channel past) s) || is_over k terminal (heard_on s.channel past) s)
     (drive_sample s.channel s.part words (length (heard_on s.channel past) - due_after terminal s.end))
-    (none-true (nat_lt (length (heard_on s.channel past)) (due_after terminal s.end)) (given_up k terminal (heard_on s.channel past) s) (is_over k terminal (heard_on s.channel past) s)
+    (none-true (nat_lt (length (heard_on s.channel past)) (due_after terminal s.end)) (given_up k terminal (heard_on s.channel past) s)
+    (is_over k terminal (heard_on s.channel past) s)
     (le-ltb (length (heard_on s.channel past)) (due_after terminal s.end) (omega (arith, length-heard s.channel past, st.sent))) st.kept st.runs)
     ∙ ap (drive_duty k terminal (heard_on s.channel past) s) (sym st.sends.duty)

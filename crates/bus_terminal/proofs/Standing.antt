@@ -11,7 +11,7 @@ use Rattle.bus_model.specs.Memory.{TimedLoad}
 use Rattle.bus_model.specs.Orders as orders
 use Rattle.bus_model.specs.Orders.{free, owes, promises, due_after}
 use Rattle.bus_model.specs.Hearing.{Moment, heard_on}
-use Rattle.bus_model.specs.Standing.{Standing, superseded, is_owed}
+use Rattle.bus_model.specs.Standing.{Standing, mark_on, ignored_from, superseded, is_owed}
 use Rattle.bus_model.specs.Terminal.{given_up}
 use Rattle.bus_orders.specs.Meant.{duty_meant}
 use Rattle.bus_orders.specs.declared.done.Duty.{Duty}
@@ -29,9 +29,12 @@ pub by-test : {A : Type 0} (P : A → Type 0) (b : Bool) (x y : A) → (b ≡ tr
 by-test P true x y f g = f refl
 by-test P false x y f g = g refl
 
--- the last order left nothing, or the end of its burst has just become known
+-- the last order left nothing, or the end of its burst has just become known on a channel that isn't ignored
 abbrev pub Recent : ℕ → List Moment → Standing → Type 0
-Recent k past s = (s.duty ≡ free) ⊎ ((length past ≡ s.end + suc k) × (quiet (heard_on s.channel past) ≡ suc k))
+Recent k past s =
+    (s.duty ≡ free)
+    ⊎ ((length past ≡ s.end + suc k) × (quiet (heard_on s.channel past) ≡ suc k) × (ignored_from k (heard_on s.channel past)
+    (mark_on s.sent s.channel) ≡ false))
 
 -- nothing was heard since that end
 pub quiet-since : (k : ℕ) (past : List Moment) (s : Standing) (b : ℕ) → length past ≡ s.end + suc k → quiet (heard_on s.channel past) ≡ suc k →
@@ -65,35 +68,40 @@ owes-stands k terminal loads common n past s sends st here is kept early =
       marked = λ some. absurd (omega (arith, some));
     }))
 
-pub duty-stands : (k : ℕ) (terminal : TerminalData) (loads : List TimedLoad) (common : Common) (n : ℕ) (past : List Moment) (s : Standing) (c : Channel) (end : ℕ) (part : Part) (d : Duty) →
+pub duty-stands : (k : ℕ) (terminal : TerminalData) (loads : List TimedLoad) (common : Common) (n : ℕ) (past : List Moment) (s : Standing)
+    (c : Channel) (end : ℕ) (part : Part) (d : Duty) →
     CommonStands k terminal loads common past s → n ≡ length past → s.channel ≡ c → s.end ≡ end → (is_owed s.duty ≡ true → s.part ≡ part) →
     superseded k s ≡ false → Recent k past s → duty_meant d ≡ s.duty → StateStands k terminal loads (duty_told common n c end part d) past s
 duty-stands k terminal loads common n past s c end part duties.Free st here on at shape fresh recent is =
     record { common = st; rests_now = subst (λ (d : orders.Duty). rests k terminal past s d ≡ true) is refl }
 duty-stands k terminal loads common n past s c end part (duties.Promises promise) st here on at shape fresh (inl none) is =
     (let no_promise : promises promise.command promise.transmitter ≡ free = is ∙ none in cc)
-duty-stands k terminal loads common n past s c end part (duties.Promises promise) st here on at shape fresh (inr (now, still)) is = record {
+duty-stands k terminal loads common n past s c end part (duties.Promises promise) st here on at shape fresh (inr (now, still, heeded)) is = record {
   common = st;
   waiting = record { channel = on; end = at; duty = sym is };
   fresh = fresh;
   heard = sym (quiet-since k past s (length past) now still);
   within = λ none. omega (arith, now, st.fits.lag);
+  awaited = λ heard. (let no : false ≡ true = heard in cc);
+  heeded = heeded;
 }
 duty-stands k terminal loads common n past s c end part (duties.Owes answer) st here on at shape fresh (inl none) is =
     (let no_answer : owes answer.words.items answer.acceptance ≡ free = is ∙ none in cc)
-duty-stands k terminal loads common n past s c end part (duties.Owes answer) st here on at shape fresh (inr (now, still)) is =
+duty-stands k terminal loads common n past s c end part (duties.Owes answer) st here on at shape fresh (inr (now, still, heeded)) is =
     let sends : Sends = record { channel = c; end = end; part = part; answer = answer } in
     let owed : is_owed s.duty ≡ true = ap is_owed (sym is) in
     owes-stands k terminal loads common n past s sends st here (record { channel = on; end = at; part = shape owed; duty = sym is })
     (kept-when k terminal past s fresh (quiet-since k past s (due_after terminal s.end) now still))
     (omega (arith, now, st.fits.prompt))
 
-pub rests-superseded : (k : ℕ) (terminal : TerminalData) (past : List Moment) (s : Standing) (d : orders.Duty) → superseded k s ≡ true → rests k terminal past s d ≡ true
+pub rests-superseded : (k : ℕ) (terminal : TerminalData) (past : List Moment) (s : Standing) (d : orders.Duty) → superseded k s ≡ true →
+    rests k terminal past s d ≡ true
 rests-superseded k terminal past s free h = refl
 rests-superseded k terminal past s (owes words acceptance) h = rw h refl
 rests-superseded k terminal past s (promises command transmitter) h = h
 
-pub left-stands : (k : ℕ) (terminal : TerminalData) (loads : List TimedLoad) (common : Common) (n : ℕ) (past : List Moment) (s : Standing) (c : Channel) (end : ℕ) (part : Part) (d : Duty) (b : Bool) →
+pub left-stands : (k : ℕ) (terminal : TerminalData) (loads : List TimedLoad) (common : Common) (n : ℕ) (past : List Moment) (s : Standing)
+    (c : Channel) (end : ℕ) (part : Part) (d : Duty) (b : Bool) →
     CommonStands k terminal loads common past s → n ≡ length past → s.channel ≡ c → s.end ≡ end → (is_owed s.duty ≡ true → s.part ≡ part) →
     b ≡ superseded k s → Recent k past s → duty_meant d ≡ s.duty → StateStands k terminal loads (stands_told common b n c end part d) past s
 left-stands k terminal loads common n past s c end part d true st here on at shape is_b recent is =

@@ -27,6 +27,7 @@ use Rattle.bus_terminal.proofs.Loads.{loads-same, made-more}
 use Rattle.bus_terminal.proofs.Within.{within-stays, or-true}
 use Rattle.bus_terminal.proofs.Standing.{by-test}
 use Rattle.bus_terminal.proofs.Ends.{Ends, ended-place}
+use Rattle.bus_terminal.proofs.Newest.{marked-tick, newest-tick, mark-before}
 
 -- ---- what the code found
 
@@ -58,15 +59,18 @@ handled-fits k heard s (told.RunsOut w) (settles end slots rest) is ends low sma
 
 -- ---- a tick without an order
 
-pub tick-none : (k : ℕ) (terminal : TerminalData) (loads : List TimedLoad) (past : List Moment) (now : Moment) (s : Standing) → order_now k terminal (now ∷ past) s ≡ None →
+pub tick-none : (k : ℕ) (terminal : TerminalData) (loads : List TimedLoad) (past : List Moment) (now : Moment) (s : Standing) →
+    order_now k terminal (now ∷ past) s ≡ None →
     after_tick k terminal loads now past s ≡ marked_by k terminal now past s s
 tick-none k terminal loads past now s e = ap (λ (o : Option Handled). marked_by k terminal now past s (ordered k terminal loads (length past) now.may s o)) e
 
-pub taken-none : (k : ℕ) (terminal : TerminalData) (loads : List TimedLoad) (past : List Moment) (now : Moment) (s : Standing) → order_now k terminal (now ∷ past) s ≡ None →
+pub taken-none : (k : ℕ) (terminal : TerminalData) (loads : List TimedLoad) (past : List Moment) (now : Moment) (s : Standing) →
+    order_now k terminal (now ∷ past) s ≡ None →
     taken_by k terminal loads (length past) now.may s (order_now k terminal (now ∷ past) s) ≡ None
 taken-none k terminal loads past now s e = ap (λ (o : Option Handled). taken_by k terminal loads (length past) now.may s o) e
 
-pub common-same : (k : ℕ) (terminal : TerminalData) (loads : List TimedLoad) (common : Common) (ears : Ears) (past : List Moment) (now : Moment) (s : Standing) →
+pub common-same : (k : ℕ) (terminal : TerminalData) (loads : List TimedLoad) (common : Common) (ears : Ears) (past : List Moment) (now : Moment)
+    (s : Standing) →
     CommonStands k terminal loads common past s → EarsStand k terminal.address ears (now ∷ past) (marked_by k terminal now past s s) →
     CommonStands k terminal loads (record { plan = common.plan; memory = common.memory; ears = ears }) (now ∷ past) (marked_by k terminal now past s s)
 common-same k terminal loads common ears past now s st hear = record {
@@ -77,13 +81,13 @@ common-same k terminal loads common ears past now s st hear = record {
   made = made-more terminal.address (length past) loads st.made;
   ears = hear;
   ended = omega (arith, st.ended);
+  marked = marked-tick k terminal now past s s (omega (arith, st.fits.lag)) st.marked;
+  newest = λ left. let before = st.newest left in
+      newest-tick k terminal now past s s (omega (arith, before.handled)) (mark-before k terminal.address common.ears past s
+      (other_of s.channel) st.ears) before.newest;
 }
 
 -- ---- marks
-
-pub mark-before : (k own : ℕ) (ears : Ears) (past : List Moment) (s : Standing) (c : Channel) → EarsStand k own ears past s → IfSome (mark_on s.addressed c) (λ m. m < length past)
-mark-before k own ears past s A st = subst (λ (n : ℕ). IfSome s.addressed.a (λ m. m < n)) (length-heard A past) st.on_a.before
-mark-before k own ears past s B st = subst (λ (n : ℕ). IfSome s.addressed.b (λ m. m < n)) (length-heard B past) st.on_b.before
 
 from-below : (t n : ℕ) (o : Option ℕ) → IfSome o (λ m. m < n) → is_from t o ≡ true → is_from t (Some n) ≡ true
 from-below t n None h e = cc
@@ -105,7 +109,8 @@ superseded-stays k own terminal ears now past s st h =
     let c : Channel = other_of s.channel in
     ap (is_from (s.end + k)) (mark-of k terminal now past s (other_of s.channel))
     ∙ by-test (λ (o : Option ℕ). is_from (s.end + k) o ≡ true)
-    (is_addressed terminal.address (slot_now k (heard_on (other_of s.channel) (now ∷ past))) && not (ignored_from k (heard_on (other_of s.channel) past) (mark_on s.sent (other_of s.channel))))
+    (is_addressed terminal.address (slot_now k (heard_on (other_of s.channel) (now ∷ past))) && not (ignored_from k (heard_on
+    (other_of s.channel) past) (mark_on s.sent (other_of s.channel))))
     (Some (length past)) (mark_on s.addressed (other_of s.channel))
     (λ _. from-below (s.end + k) (length past) (mark_on s.addressed (other_of s.channel)) (mark-before k own ears past s (other_of s.channel) st) h)
     (λ _. h)
@@ -126,13 +131,15 @@ three-true true b c (inl (inr h)) = refl
 three-true false b c (inl (inr h)) = rw h refl
 three-true a b c (inr h) = rw h (or-true (a || b))
 
-pub rests-stays : (k own : ℕ) (terminal : TerminalData) (ears : Ears) (now : Moment) (past : List Moment) (s : Standing) (d : Duty) → EarsStand k own ears past s →
+pub rests-stays : (k own : ℕ) (terminal : TerminalData) (ears : Ears) (now : Moment) (past : List Moment) (s : Standing) (d : Duty) →
+    EarsStand k own ears past s →
     rests k terminal past s d ≡ true → rests k terminal (now ∷ past) (marked_by k terminal now past s s) d ≡ true
 rests-stays k own terminal ears now past s free st h = refl
 rests-stays k own terminal ears now past s (promises command transmitter) st h = superseded-stays k own terminal ears now past s st h
 rests-stays k own terminal ears now past s (owes words acceptance) st h =
     let due : ℕ = due_after terminal s.end in
-    three-true (superseded k (marked_by k terminal now past s s)) (heard_within (heard_on s.channel (now ∷ past)) s.end due) (is_some (end_since k (heard_on s.channel (now ∷ past)) due))
+    three-true (superseded k (marked_by k terminal now past s s)) (heard_within (heard_on s.channel (now ∷ past)) s.end due) (is_some (end_since k
+    (heard_on s.channel (now ∷ past)) due))
     (elim (or-cases (superseded k s || heard_within (heard_on s.channel past) s.end due) (is_some (end_since k (heard_on s.channel past) due)) h) [
       | inl up ↦ elim (or-cases (superseded k s) (heard_within (heard_on s.channel past) s.end due) up) [
         | inl newer ↦ inl (inl (superseded-stays k own terminal ears now past s st newer))
@@ -155,7 +162,8 @@ rests-begin k terminal past s (owes words acceptance) h =
     elim (or-cases (given_up k terminal (heard_on s.channel past) s) (is_over k terminal (heard_on s.channel past) s) h) [
       | inl up ↦ none-last (length past == due_after terminal s.end) (given_up k terminal (heard_on s.channel past) s) up
       | inr over ↦ none-first (length past == due_after terminal s.end) (not (given_up k terminal (heard_on s.channel past) s))
-          (over-late k (due_after terminal s.end) (length past) (heard_on s.channel past) (end_since k (heard_on s.channel past) (due_after terminal s.end)) (length-heard s.channel past) refl over)
+          (over-late k (due_after terminal s.end) (length past) (heard_on s.channel past) (end_since k (heard_on s.channel past)
+          (due_after terminal s.end)) (length-heard s.channel past) refl over)
     ] where
       none-last : (b u : Bool) → u ≡ true → (b && not u) ≡ false
       none-last true u h = rw h refl
@@ -170,10 +178,12 @@ and-false b c h = rw h refl
 pub listens-none : (k : ℕ) (terminal : TerminalData) (past : List Moment) (s : Standing) → begins k terminal past s ≡ false → Listens k terminal None past s
 listens-none k terminal past s h = λ c. and-false (begins k terminal past s) (same_channel s.channel c) h
 
-pub rests-listens : (k : ℕ) (terminal : TerminalData) (past : List Moment) (s : Standing) → rests k terminal past s s.duty ≡ true → Listens k terminal None past s
+pub rests-listens : (k : ℕ) (terminal : TerminalData) (past : List Moment) (s : Standing) → rests k terminal past s s.duty ≡ true →
+    Listens k terminal None past s
 rests-listens k terminal past s h = listens-none k terminal past s (rests-begin k terminal past s s.duty h)
 
-rests-promise : (k : ℕ) (terminal : TerminalData) (past : List Moment) (s : Standing) (d : Duty) (same : Bool) → rests k terminal past s d ≡ true → (is_promise d && same && not (superseded k s)) ≡ false
+rests-promise : (k : ℕ) (terminal : TerminalData) (past : List Moment) (s : Standing) (d : Duty) (same : Bool) → rests k terminal past s d ≡ true →
+    (is_promise d && same && not (superseded k s)) ≡ false
 rests-promise k terminal past s free same h = refl
 rests-promise k terminal past s (owes words acceptance) same h = refl
 rests-promise k terminal past s (promises command transmitter) true h = rw h refl

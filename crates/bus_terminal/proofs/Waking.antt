@@ -1,11 +1,12 @@
 -- A terminal that wakes stands for its memory and quiet ticks.
-use Rattle.std.proofs.Common.{◌≡◌, ℕ, zero, suc, ◌<◌, Bool, true, ◌==◌, nat_lt, List, [], ◌∷◌, length, refl, sym, ap, ◌∙◌, subst, arith, inl, inr, if◌then◌else◌}
+use Rattle.std.proofs.Common.{◌≡◌, ℕ, zero, suc, ◌<◌, Bool, true, false, ◌==◌, nat_lt, List, [], ◌∷◌, length, refl, sym, ap, ◌∙◌, subst, arith, inl, inr, if◌then◌else◌}
 use Rattle.std.proofs.lemmas.Bool.{lt-ltb, eqb-true, cases_Bool}
 use Rattle.bus_formats.specs.Plans.{TerminalData}
 use Rattle.bus_model.specs.Memory.{Memory, TimedLoad, with_loads, load_due, load_block}
 use Rattle.bus_model.specs.Hearing.{Moment}
 use Rattle.bus_model.specs.Standing.{Standing, at_rest}
 use Rattle.bus_terminal.specs.Quiet.{quiet_moments}
+use Rattle.bus_terminal.proofs.Newest.{marked-quiet}
 use Rattle.bus_terminal.specs.Stands.{AreMade, CommonStands, StateStands, RestsFrom}
 use Rattle.bus_terminal.specs.declared.common.Common.{Common}
 use Rattle.bus_terminal.specs.declared.state.TerminalState.{TerminalState}
@@ -30,9 +31,11 @@ pub loads-alike : (address n m : ℕ) (loads : List TimedLoad) (memory : Memory)
     with_loads address n loads memory ≡ with_loads address m loads memory
 loads-alike address n m [] memory f g = refl
 loads-alike address n m (load ∷ loads) memory f g =
-    loads-alike address n m loads _ f.1 g.1 ∙ ap (λ (b : Bool). with_loads address m loads (if b then load_block memory load.sub load.words else memory)) (due-alike address n m load f.0 g.0)
+    loads-alike address n m loads _ f.1 g.1 ∙ ap (λ (b : Bool). with_loads address m loads
+    (if b then load_block memory load.sub load.words else memory)) (due-alike address n m load f.0 g.0)
 
-pub woken-stands : (k : ℕ) (terminal : TerminalData) (loads : List TimedLoad) (state : TerminalState) (common : Common) (past : List Moment) (s : Standing) (kept : Memory) (n : ℕ) →
+pub woken-stands : (k : ℕ) (terminal : TerminalData) (loads : List TimedLoad) (state : TerminalState) (common : Common) (past : List Moment)
+    (s : Standing) (kept : Memory) (n : ℕ) →
     CommonStands k terminal loads common past s → RestsFrom k state common → AreMade terminal.address n loads → common.memory ≡ kept →
     StateStands k terminal loads state (quiet_moments n) (at_rest kept)
 woken-stands k terminal loads (states.Listening state) common past s kept n st rested made is =
@@ -49,6 +52,8 @@ woken-stands k terminal loads (states.Listening state) common past s kept n st r
         made = subst (λ (m : ℕ). AreMade terminal.address m loads) (sym (quiet-length n)) made;
         ears = rested.2 terminal.address n kept;
         ended = omega arith;
+        marked = marked-quiet k terminal.address n kept;
+        newest = λ left. (let no : false ≡ true = left in cc);
       };
       rests_now = refl;
     }

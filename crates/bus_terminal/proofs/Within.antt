@@ -51,5 +51,6 @@ within-bound (x ∷ past) a b c low high = elim (cases_lt (length past) a) [
   | inl early ↦ within-early (x ∷ past) a b (omega (arith, early)) ∙ sym (within-early (x ∷ past) a c (omega (arith, early)))
   | inr late ↦ (let first : nat_lt (length past) b ≡ true = lt-ltb (length past) b (omega (arith, low)) in
       let second : nat_lt (length past) c ≡ true = lt-ltb (length past) c (omega (arith, high)) in
-      within-more x past a b late ∙ (rw (first, within-bound past a b c (omega (arith, low)) (omega (arith, high))) (sym (within-more x past a c late ∙ (rw second refl)))))
+      within-more x past a b late ∙ (rw (first, within-bound past a b c (omega (arith, low)) (omega (arith, high))) (sym
+      (within-more x past a c late ∙ (rw second refl)))))
 ]

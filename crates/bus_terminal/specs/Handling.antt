@@ -72,7 +72,8 @@ abbrev pub Awaits : ℕ → Option Waiting → Standing → Type 0
 Awaits k None s = (c : Channel) → promised_on k s c ≡ false
 Awaits k (Some w) s = IsWaiting w s × (standing.superseded k s ≡ false)
 
-pub record IsCommand (c : Channel) (command : ℕ) (burst : HeardBurst) (channel : Channel) (end : ℕ) (bits : ℕ) (kept : List (Option Word)) (rest : ℕ) : Type 0 where
+pub record IsCommand (c : Channel) (command : ℕ) (burst : HeardBurst) (channel : Channel) (end : ℕ) (bits : ℕ) (kept : List (Option Word))
+    (rest : ℕ) : Type 0 where
   pub channel_is : c ≡ channel
   pub end_is : burst.end ≡ end
   pub command_is : command ≡ bits

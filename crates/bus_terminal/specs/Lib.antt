@@ -1,6 +1,7 @@
 pub mod Holding
 pub mod Handling
 pub mod Steps
+pub mod Newest
 pub mod Stands
 pub mod TerminalStands
 pub mod Shown

@@ -1,18 +1,20 @@
 -- For which hearings the states of a terminal stand.
 use Rattle.std.specs.Prelude.{◌≡◌, ℕ, suc, ◌+◌, ◌<◌, ◌≤◌, Bool, true, false, ◌||◌, List, [], ◌∷◌, length, Option, Some, None, is_some, ⊤}
 use Rattle.bus_base.specs.declared.samples.Channel.{Channel}
-use Rattle.bus_line.specs.Past.{heard_within}
+use Rattle.bus_base.specs.declared.samples.Sample.{Sample}
+use Rattle.bus_line.specs.Past.{heard_within, runs, first_tick}
 use Rattle.bus_formats.specs.Plans.{TerminalData}
 use Rattle.bus_formats.specs.Times.{dead_ticks}
 use Rattle.bus_model.specs.Waits.{relay_wait}
 use Rattle.bus_model.specs.Memory.{Memory, TimedLoad, with_loads}
 use Rattle.bus_model.specs.Orders.{Duty, free, owes, promises, due_after, Taken}
 use Rattle.bus_model.specs.Hearing.{Moment, heard_on}
-use Rattle.bus_model.specs.Standing.{Standing, at_rest, mark_on, superseded, Handled, obeys}
+use Rattle.bus_model.specs.Standing.{Standing, at_rest, mark_on, ignored_from, superseded, Handled, obeys}
 use Rattle.bus_model.specs.Terminal.{given_up, is_over, after_tick, order_now, taken_by}
 use Rattle.bus_terminal.specs.Holding.{EarsStand}
 use Rattle.bus_terminal.specs.Quiet.{quiet_moments}
 use Rattle.bus_terminal.specs.Handling.{IsWaiting}
+use Rattle.bus_terminal.specs.Newest.{is_left, AreMarked, IsNewest}
 use Rattle.bus_terminal.specs.declared.common.Common.{Common}
 use Rattle.bus_terminal.specs.declared.state.Sends.{Sends}
 use Rattle.bus_terminal.specs.declared.listening.Listening.{Listening}
@@ -46,6 +48,8 @@ pub record CommonStands (k : ℕ) (terminal : TerminalData) (loads : List TimedL
   pub made : AreMade terminal.address (length past) loads
   pub ears : EarsStand k terminal.address common.ears past s
   pub ended : s.end ≤ length past
+  pub marked : AreMarked k terminal.address past s
+  pub newest : is_left s.duty ≡ true → IsNewest k (length past) s
 
 -- what was left by the last order counts no more
 abbrev pub rests : ℕ → TerminalData → List Moment → Standing → Duty → Bool
@@ -57,13 +61,21 @@ pub record ListeningStands (k : ℕ) (terminal : TerminalData) (loads : List Tim
   pub common : CommonStands k terminal loads state.common past s
   pub rests_now : rests k terminal past s s.duty ≡ true
 
--- at most 30 dead ticks since the relay's command burst, or something was heard since
+-- the burst that runs on a channel began after at most 30 dead ticks, counted from an end
+pub record IsAwaited (k : ℕ) (heard : List Sample) (end : ℕ) : Type 0 where
+  pub running : runs k heard ≡ true
+  pub after : end ≤ first_tick k heard
+  pub soon : first_tick k heard ≤ end + relay_wait
+
+-- at most 30 dead ticks passed since the relay's command burst, or the awaited burst runs; its channel isn't ignored
 pub record PromisedStands (k : ℕ) (terminal : TerminalData) (loads : List TimedLoad) (state : Promised) (past : List Moment) (s : Standing) : Type 0 where
   pub common : CommonStands k terminal loads state.common past s
   pub waiting : IsWaiting state.waiting s
   pub fresh : superseded k s ≡ false
   pub heard : state.heard ≡ heard_within (heard_on s.channel past) s.end (length past)
   pub within : state.heard ≡ false → length past ≤ s.end + relay_wait
+  pub awaited : state.heard ≡ true → IsAwaited k (heard_on s.channel past) s.end
+  pub heeded : ignored_from k (heard_on s.channel past) (mark_on s.sent s.channel) ≡ false
 
 pub record IsSending (sends : Sends) (s : Standing) : Type 0 where
   pub channel : s.channel ≡ sends.channel
@@ -107,14 +119,15 @@ channel_of s None = s.channel
 channel_of s (Some (obeys c end order rest)) = c
 channel_of s (Some _) = s.channel
 
--- what the newest tick told of acceptance, where an answer that accepts has this end, or none: control was accepted, unless a block was taken
+-- what the newest tick told of acceptance, where an answer that accepts has this end, or none: exactly where control is accepted
 abbrev pub AcceptedIs : TerminalEvent → Option ℕ → Type 0
 AcceptedIs events.Nothing accepted = accepted ≡ None
-AcceptedIs (events.Took delivery) accepted = ⊤
+AcceptedIs (events.Took delivery) accepted = accepted ≡ None
 AcceptedIs events.Accepted accepted = is_some accepted ≡ true
 
 -- the state after a tick, and what is told of it, where control is accepted with this end
-pub record NextStands (k : ℕ) (terminal : TerminalData) (loads : List TimedLoad) (next : TerminalNext) (past : List Moment) (now : Moment) (s : Standing) (end : Option ℕ) : Type 0 where
+pub record NextStands (k : ℕ) (terminal : TerminalData) (loads : List TimedLoad) (next : TerminalNext) (past : List Moment) (now : Moment)
+    (s : Standing) (end : Option ℕ) : Type 0 where
   pub state : StateStands k terminal loads next.state (now ∷ past) (after_tick k terminal loads now past s)
   pub taken : TakenIs next.event (length past) (channel_of s (order_now k terminal (now ∷ past) s))
       (taken_by k terminal loads (length past) now.may s (order_now k terminal (now ∷ past) s))

@@ -14,7 +14,6 @@ use Rattle.bus_terminal.specs.declared.handling.Waiting.{Waiting}
 use Rattle.bus_terminal.specs.declared.state.Sends.{Sends}
 use Rattle.bus_terminal.specs.declared.state.TerminalState.{TerminalState}
 use Rattle.bus_terminal.specs.declared.state.TerminalState.TheVariants as states
-use Rattle.bus_terminal.specs.declared.state.TerminalNext.{TerminalNext}
 use Rattle.bus_terminal.specs.declared.state.TerminalEvent.{TerminalEvent}
 use Rattle.bus_terminal.specs.declared.state.TerminalEvent.TheVariants as events
 
@@ -75,11 +74,6 @@ abbrev pub is_status : ℕ → Option HeardBurst → Bool
 is_status due None = false
 is_status due (Some burst) = (burst.first == due) && nat_le (due + 40) burst.end
 
--- control was accepted in a tick, unless a block was taken in it
-abbrev pub accepted_event : TerminalEvent → Bool → TerminalEvent
-accepted_event (events.Took delivery) accepted = events.Took delivery
-accepted_event events.Accepted accepted = events.Accepted
-accepted_event events.Nothing accepted = if accepted then events.Accepted else events.Nothing
-
-abbrev pub accepted_told : TerminalNext → Bool → TerminalNext
-accepted_told next accepted = record { state = next.state; event = accepted_event next.event accepted }
+-- what is told of a tick without an order
+abbrev pub acceptance_told : Bool → TerminalEvent
+acceptance_told accepted = if accepted then events.Accepted else events.Nothing

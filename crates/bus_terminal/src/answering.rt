@@ -1,28 +1,29 @@
 //! A terminal whose answer runs.
-ghost use Rattle.std.specs.Prelude.{◌≡◌, ◌<◌, ◌^◌, ◌+◌, ◌==◌, ◌≤◌, ◌&&◌, ℕ, List, length, get_or};
+ghost use Rattle.std.specs.Prelude.{◌≡◌, ◌<◌, ◌^◌, ◌+◌, ◌==◌, ◌≤◌, ◌&&◌, ℕ, List, length};
 ghost use Rattle.bus_line.specs.declared.cutter.TheConstants.{LAG};
 ghost use Rattle.bus_formats.specs.Plans.{TerminalData};
 ghost use Rattle.bus_model.specs.Memory.{TimedLoad};
 ghost use Rattle.bus_model.specs.Hearing.{Moment};
 ghost use Rattle.bus_model.specs.Sending.{drive_sample};
 ghost use Rattle.bus_model.specs.Sending as sending;
-ghost use Rattle.bus_line.specs.Spelling.{spelling};
 ghost use Rattle.bus_model.specs.Standing.{Standing};
 ghost use Rattle.bus_model.specs.Terminal.{accepted_on};
 ghost use Rattle.bus_terminal.specs.Stands.{AnsweringStands, NextStands};
-ghost use Rattle.bus_terminal.specs.Steps.{answering_on, begins_told, accepted_told, accepted_event};
+ghost use Rattle.bus_terminal.specs.Steps.{answering_on, begins_told, acceptance_told};
 ghost use Rattle.bus_terminal.specs.Steps as told;
 
 use crate::Listening;
 use crate::common::{Common, Listened};
 use crate::handling::found;
 use crate::state::{Sends, TerminalEvent, TerminalNext, TerminalState, act};
-use bus_base::{Channel, Drive, Pair, Part, Sample, Tick};
+use bus_base::{Channel, Drive, Pair, Part, Tick};
 use bus_ears::HeardBurst;
-use bus_line::spell;
+use bus_line::sample_of;
 use bus_words::Word;
 
-/// Its answer has begun so many ticks ago, or begins in the next tick.
+/// Its answer began `sent` ticks ago, or begins in the next tick: its own dead ticks passed (response time, MIL-STD-1553B 4.3.3.8), and since the
+/// answer's first tick its channel wasn't quiet for four ticks in a row. Left at the fourth quiet tick in a row there, or at a newer command on
+/// the other channel (4.4.3.2).
 #[derive(Drop)]
 pub struct Answering {
     pub(crate) common: Common,
@@ -46,15 +47,14 @@ impl Answering {
         let listened = common.listen(now.0, heard, begins);
         let accepted = accepts(&sends, &listened, now.0.saturating_sub(self.sent));
         match found(listened, None, false) {
-            Some(handled) => accept(act(common, now.0, handled, may_accept), accepted),
+            Some(handled) => act(common, now.0, handled, may_accept),
             None => {
                 let newer = common.ears.supersede(sends.channel, sends.end);
                 let ignored = common.ears.ignore(sends.channel);
-                let next = TerminalNext {
+                TerminalNext {
                     state: send_on(common, sends, self.sent + 1, newer, ignored),
-                    event: TerminalEvent::Nothing,
-                };
-                accept(next, accepted)
+                    event: acceptance(accepted),
+                }
             }
         }
     }
@@ -83,18 +83,10 @@ fn drive_sample(channel: Channel, part: Part, words: &[Word], place: u64) -> Dri
     let word = words[(place / 40) as usize];
     Drive::On {
         channel,
-        sample: sample_at(word, (place % 40) as usize),
+        sample: sample_of(word, (place % 40) as usize),
         part,
         last: place + 1 == 40 * words.len() as u64,
     }
-}
-
-fn sample_at(word: Word, position: usize) -> Sample
-    requires { position < 40 }
-    ensures { result ≡ get_or (spelling word) position Sample.Quiet }
-{
-    let samples = spell(word);
-    samples[position]
 }
 
 // The channel on which the answer begins, where nothing of it was sent.
@@ -142,28 +134,14 @@ fn is_status(burst: &Option<HeardBurst>, due: u64) -> bool
     }
 }
 
-// Control was accepted in a tick, unless a block was taken in it.
-fn accept(next: TerminalNext, accepted: bool) -> TerminalNext
-    ensures { result ≡ accepted_told next accepted }
+// Control was accepted in a tick without an order. An order on the other channel in the tick in which an answer's end is known would have given
+// the answer up, or is older than it and no order.
+fn acceptance(accepted: bool) -> TerminalEvent
+    ensures { result ≡ acceptance_told accepted }
 {
-    TerminalNext {
-        state: next.state,
-        event: accept_event(next.event, accepted),
-    }
-}
-
-fn accept_event(event: TerminalEvent, accepted: bool) -> TerminalEvent
-    ensures { result ≡ accepted_event event accepted }
-{
-    match event {
-        TerminalEvent::Took(delivery) => TerminalEvent::Took(delivery),
-        TerminalEvent::Accepted => TerminalEvent::Accepted,
-        TerminalEvent::Nothing => {
-            if accepted {
-                TerminalEvent::Accepted
-            } else {
-                TerminalEvent::Nothing
-            }
-        }
+    if accepted {
+        TerminalEvent::Accepted
+    } else {
+        TerminalEvent::Nothing
     }
 }

@@ -58,7 +58,8 @@ impl Ears {
         ensures stands { (terminal : TerminalData) (past : List Moment) (s after : spec.Standing) (moment : Moment) → terminal.address ≡ own →
             EarsStand LAG own self.old past s → length past ≡ now → moment.shown ≡ heard → Listens LAG terminal begins past s →
             EarsStand LAG own self.new (moment ∷ past) (marked_by LAG terminal moment past s after) }
-        ensures tells { (past : List Moment) (s : spec.Standing) (moment : Moment) → EarsStand LAG own self.old past s → length past ≡ now → moment.shown ≡ heard →
+        ensures tells { (past : List Moment) (s : spec.Standing) (moment : Moment) → EarsStand LAG own self.old past s → length past ≡ now →
+            moment.shown ≡ heard →
             AreListened LAG own result (moment ∷ past) past s }
     {
         let a_outrun = is_newer(Channel::B, self.b.addressed(), self.a.addressed());

@@ -1,10 +1,12 @@
 //! A remote terminal, apart from any controller (MIL-STD-1553B 4.4.3): what it sends, what it keeps and what it tells, for every history of
-//! both channels. Its states are types, and hearing a tick consumes a state and gives the next.
+//! both channels. Its states are types, and hearing a tick consumes a state and gives the next. What each state is known to be in ticks is a law
+//! of its own.
 #![tactic(auto)]
 
 mod answering;
 mod common;
 mod handling;
+mod invariants;
 mod listening;
 mod owing;
 mod promised;
@@ -14,6 +16,10 @@ mod terminal;
 mod tests;
 
 pub use answering::Answering;
+pub use invariants::{
+    a_promise_waits_thirty_dead_ticks, an_answer_runs_from_its_due_tick, an_owed_answer_is_not_due,
+    listening_owes_nothing,
+};
 pub use listening::Listening;
 pub use owing::Owing;
 pub use promised::Promised;

@@ -13,7 +13,9 @@ use crate::handling::found;
 use crate::state::{TerminalEvent, TerminalNext, TerminalState, act};
 use bus_base::{Pair, Tick};
 
-/// It owes nothing.
+/// It owes nothing: it waits for a command. What its last order left was carried out, given up, or taken back by a newer command on the other
+/// channel (MIL-STD-1553B 4.4.3.1, 4.4.3.2). A command that is answered or promises something leaves it, in the tick in which its burst's end is
+/// known.
 #[derive(Drop)]
 pub struct Listening {
     pub(crate) common: Common,

@@ -15,7 +15,8 @@ use crate::handling::found;
 use crate::state::{Sends, TerminalEvent, TerminalNext, TerminalState, act, owe};
 use bus_base::{Pair, Tick};
 
-/// Its answer begins after its own dead ticks.
+/// Its answer begins after its own dead ticks, 4 to 20: fewer passed since the end of the burst that it answers (response time, MIL-STD-1553B
+/// 4.3.3.8). Left when the answer is due, at a sample on its channel, or at a newer command on the other (4.4.3.2).
 #[derive(Drop)]
 pub struct Owing {
     pub(crate) common: Common,

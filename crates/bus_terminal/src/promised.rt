@@ -17,7 +17,9 @@ use crate::state::{TerminalEvent, TerminalNext, TerminalState, act};
 use bus_base::{Pair, Tick};
 use bus_orders::Promise;
 
-/// It takes the next burst on the promise's channel, if that begins after at most 30 dead ticks.
+/// It takes the next burst on the promise's channel, if that begins after at most 30 dead ticks. At most 30 passed since the end of the relay's
+/// command burst, or the awaited burst runs (terminal to terminal transfers, MIL-STD-1553B 4.3.3.6.3, 4.3.3.6.7.2). Left in the tick in which that
+/// burst's end is known, at the 31st quiet tick, or at a newer command on the other channel (4.4.3.2).
 #[derive(Drop)]
 pub struct Promised {
     pub(crate) common: Common,

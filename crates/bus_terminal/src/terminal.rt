@@ -49,19 +49,22 @@ impl Terminal {
     }
 
     /// Hears what both channels show in the tick `now`, which follows the last tick heard. `may_accept` says that the terminal's station has
-    /// items left. It tells the block that it took whole in this tick, or else that it accepted control: the end of an answer with acceptance,
-    /// as long as a status word at least, is known in this tick (MIL-STD-1553B 4.3.3.5.1.7.1).
+    /// items left. It tells the block that it took whole in this tick, or that it accepted control: the end of an answer with acceptance, as long
+    /// as a status word at least, is known in this tick (MIL-STD-1553B 4.3.3.5.1.7.1). No tick has both.
     pub fn hear(&mut self, now: Tick, heard: Pair, may_accept: bool) -> TerminalEvent
         requires { (plan : TerminalData) × (loads : List TimedLoad) × (hearing : Hearing) × TerminalStands LAG plan loads self.old hearing
             × (length hearing.ticks ≡ now.0) × (now.0 < 2 ^ 60) }
-        ensures stands { (plan : TerminalData) (loads : List TimedLoad) (hearing : Hearing) → TerminalStands LAG plan loads self.old hearing → length hearing.ticks ≡ now.0 →
+        ensures stands { (plan : TerminalData) (loads : List TimedLoad) (hearing : Hearing) → TerminalStands LAG plan loads self.old hearing →
+            length hearing.ticks ≡ now.0 →
             TerminalStands LAG plan loads self.new (record hearing { ticks = record { shown = heard; may = may_accept } ∷ hearing.ticks }) }
-        ensures took { (plan : TerminalData) (loads : List TimedLoad) (hearing : Hearing) → TerminalStands LAG plan loads self.old hearing → length hearing.ticks ≡ now.0 →
+        ensures took { (plan : TerminalData) (loads : List TimedLoad) (hearing : Hearing) → TerminalStands LAG plan loads self.old hearing →
+            length hearing.ticks ≡ now.0 →
             TakenIs result now.0
             (channel_of (standing LAG plan loads hearing.memory hearing.ticks)
             (order_now LAG plan (record { shown = heard; may = may_accept } ∷ hearing.ticks) (standing LAG plan loads hearing.memory hearing.ticks)))
             (took_now LAG plan loads (record hearing { ticks = record { shown = heard; may = may_accept } ∷ hearing.ticks })) }
-        ensures accepted { (plan : TerminalData) (loads : List TimedLoad) (hearing : Hearing) → TerminalStands LAG plan loads self.old hearing → length hearing.ticks ≡ now.0 →
+        ensures accepted { (plan : TerminalData) (loads : List TimedLoad) (hearing : Hearing) → TerminalStands LAG plan loads self.old hearing →
+            length hearing.ticks ≡ now.0 →
             AcceptedIs result (accepted_now LAG plan loads (record hearing { ticks = record { shown = heard; may = may_accept } ∷ hearing.ticks })) }
     {
         self.step(now, heard, may_accept)
@@ -69,7 +72,8 @@ impl Terminal {
 
     /// What it sends in the next tick.
     pub fn drive(&self) -> Drive
-        ensures { (plan : TerminalData) (loads : List TimedLoad) (hearing : Hearing) → TerminalStands LAG plan loads self.now hearing → result ≡ drives LAG plan loads hearing }
+        ensures { (plan : TerminalData) (loads : List TimedLoad) (hearing : Hearing) → TerminalStands LAG plan loads self.now hearing →
+            result ≡ drives LAG plan loads hearing }
     {
         self.state.drive()
     }
@@ -102,7 +106,8 @@ impl Terminal {
 
     /// It listens as after any number of quiet ticks; what it keeps stays.
     pub fn wake(&mut self)
-        ensures { (plan : TerminalData) (loads : List TimedLoad) (hearing : Hearing) (n : ℕ) → TerminalStands LAG plan loads self.old hearing → AreMade plan.address n loads →
+        ensures { (plan : TerminalData) (loads : List TimedLoad) (hearing : Hearing) (n : ℕ) → TerminalStands LAG plan loads self.old hearing →
+            AreMade plan.address n loads →
             TerminalStands LAG plan loads self.new (record { memory = memory_after LAG plan loads hearing; ticks = quiet_moments n }) }
     {
         self.rest()
@@ -139,7 +144,8 @@ impl Terminal {
     fn step(&mut self, now: Tick, heard: Pair, may_accept: bool) -> TerminalEvent
         requires { (terminal : TerminalData) × (loads : List TimedLoad) × (past : List Moment) × (s : Standing) × StateStands LAG terminal loads self.old.state past s
             × (length past ≡ now.0) × (now.0 < 2 ^ 60) }
-        ensures { (terminal : TerminalData) (loads : List TimedLoad) (past : List Moment) (s : Standing) → StateStands LAG terminal loads self.old.state past s →
+        ensures { (terminal : TerminalData) (loads : List TimedLoad) (past : List Moment) (s : Standing) →
+            StateStands LAG terminal loads self.old.state past s →
             length past ≡ now.0 → NextStands LAG terminal loads (record { state = self.new.state; event = result }) past (record { shown = heard; may = may_accept }) s
             (accepted_on LAG terminal loads (record { shown = heard; may = may_accept }) past s) }
     {

@@ -4,10 +4,11 @@ use Rattle.bus_terminal.specs.Holding.{Listens}
 use Rattle.bus_line.specs.declared.cutter.TheConstants.{LAG}
 use Rattle.bus_model.specs.Hearing.{Moment}
 use Rattle.bus_model.specs.Terminal.{marked_by}
-use Rattle.bus_terminal.proofs.Accepting.{answering-accepts}
+use Rattle.bus_terminal.proofs.Accepting.{answering-accepts, next-silent}
+use Rattle.bus_terminal.proofs.Alone.{ordered-accepts}
 use Rattle.bus_terminal.proofs.Listened.{found-free, fits-of}
 use Rattle.bus_terminal.proofs.OwingTicks.{sends-awaits}
-use Rattle.bus_terminal.proofs.AnsweringTicks.{answering-listens, answering-none, accepted-next}
+use Rattle.bus_terminal.proofs.AnsweringTicks.{answering-listens, answering-none}
 use Rattle.bus_terminal.proofs.Ticks.{some-handled, none-handled}
 use Rattle.bus_terminal.proofs.answering.Answering.hear.Goals as goal
 
@@ -20,34 +21,41 @@ pub act-requires-clause-end : goal.act-requires-clause-end
 act-requires-clause-end c =
     let (terminal, loads, past, s, st, here, small) = c.requires in
     let moment : Moment = record { shown = c.args.heard; may = c.args.may_accept } in
-    let begins = subst (λ (o : Option Channel). Listens LAG terminal o past s) (sym c.begins_in-begins.ensures) (answering-listens LAG terminal loads c.args.self past s st) in
+    let begins = subst (λ (o : Option Channel). Listens LAG terminal o past s) (sym c.begins_in-begins.ensures)
+    (answering-listens LAG terminal loads c.args.self past s st) in
     let told = c.listen-listened.ensures.tells terminal loads past s moment st.common here refl in
-    let some = some-handled s _ c.in-Some.handled _ (found-free LAG terminal past moment s c.listen-listened.result (sends-awaits LAG s c.args.self.sends st.sends) told) (sym c.found.ensures ∙ c.in-Some.is) in
+    let some = some-handled s _ c.in-Some.handled _ (found-free LAG terminal past moment s c.listen-listened.result
+    (sends-awaits LAG s c.args.self.sends st.sends) told) (sym c.found.ensures ∙ c.in-Some.is) in
     fits-of LAG terminal loads c.args.self.common past moment s c.in-Some.handled some.0 c.args.now.0 st.common here small some.1 some.2
 
 pub returns-in-Some : goal.returns-in-Some
 returns-in-Some c = λ terminal loads past s st here.
     let moment : Moment = record { shown = c.args.heard; may = c.args.may_accept } in
-    let begins = subst (λ (o : Option Channel). Listens LAG terminal o past s) (sym c.begins_in-begins.ensures) (answering-listens LAG terminal loads c.args.self past s st) in
+    let begins = subst (λ (o : Option Channel). Listens LAG terminal o past s) (sym c.begins_in-begins.ensures)
+    (answering-listens LAG terminal loads c.args.self past s st) in
     let told = c.listen-listened.ensures.tells terminal loads past s moment st.common here refl in
-    let some = some-handled s _ c.in-Some.handled _ (found-free LAG terminal past moment s c.listen-listened.result (sends-awaits LAG s c.args.self.sends st.sends) told) (sym c.found.ensures ∙ c.in-Some.is) in
-    let accepted = answering-accepts LAG terminal loads c.args.self c.listen-listened.result moment past s c.args.now.0 c.saturating_sub.result c.accepts-accepted.result
-    st told here c.saturating_sub.ensures c.accepts-accepted.ensures in
-    rw c.accept.ensures (accepted-next LAG terminal loads c.act.result past moment s c.accepts-accepted.result _ accepted
-    (c.act.ensures terminal loads c.args.self.common past moment s some.0 st.common some.1 some.2 c.listen-listened.ensures.plan c.listen-listened.ensures.memory
-    (λ after. c.listen-listened.ensures.stands terminal loads past s after moment st.common here refl begins) (sym here) refl))
+    let some = some-handled s _ c.in-Some.handled _ (found-free LAG terminal past moment s c.listen-listened.result
+    (sends-awaits LAG s c.args.self.sends st.sends) told) (sym c.found.ensures ∙ c.in-Some.is) in
+    next-silent LAG terminal loads _ past moment s _ (ordered-accepts LAG terminal loads c.args.self moment past s some.0 st some.1)
+    (c.act.ensures terminal loads c.args.self.common past moment s some.0 st.common some.1 some.2 c.listen-listened.ensures.plan
+    c.listen-listened.ensures.memory
+    (λ after. c.listen-listened.ensures.stands terminal loads past s after moment st.common here refl begins) (sym here) refl)
 
 pub returns-in-None : goal.returns-in-None
 returns-in-None c = λ terminal loads past s st here.
     let moment : Moment = record { shown = c.args.heard; may = c.args.may_accept } in
-    let begins = subst (λ (o : Option Channel). Listens LAG terminal o past s) (sym c.begins_in-begins.ensures) (answering-listens LAG terminal loads c.args.self past s st) in
+    let begins = subst (λ (o : Option Channel). Listens LAG terminal o past s) (sym c.begins_in-begins.ensures)
+    (answering-listens LAG terminal loads c.args.self past s st) in
     let told = c.listen-listened.ensures.tells terminal loads past s moment st.common here refl in
-    let none = none-handled s _ _ (found-free LAG terminal past moment s c.listen-listened.result (sends-awaits LAG s c.args.self.sends st.sends) told) (sym c.found.ensures ∙ c.in-None.is) in
+    let none = none-handled s _ _ (found-free LAG terminal past moment s c.listen-listened.result
+    (sends-awaits LAG s c.args.self.sends st.sends) told) (sym c.found.ensures ∙ c.in-None.is) in
     let stands = c.listen-listened.ensures.stands terminal loads past s s moment st.common here refl begins in
-    let accepted = answering-accepts LAG terminal loads c.args.self c.listen-listened.result moment past s c.args.now.0 c.saturating_sub.result c.accepts-accepted.result
+    let accepted = answering-accepts LAG terminal loads c.args.self c.listen-listened.result moment past s c.args.now.0 c.saturating_sub.result
+    c.accepts-accepted.result
     st told here c.saturating_sub.ensures c.accepts-accepted.ensures in
-    rw (c.accept-in-None.ensures, c.send_on.ensures)
-    (answering-none LAG terminal loads c.args.self c.listen-listened.new.self past moment s (c.args.self.sent + 1) c.supersede-newer.result c.ignore-ignored.result c.accepts-accepted.result _ accepted
+    rw (c.acceptance.ensures, c.send_on.ensures)
+    (answering-none LAG terminal loads c.args.self c.listen-listened.new.self past moment s
+    (c.args.self.sent + 1) c.supersede-newer.result c.ignore-ignored.result c.accepts-accepted.result _ accepted
     st none c.listen-listened.ensures.plan c.listen-listened.ensures.memory stands (omega arith)
     (c.supersede-newer.ensures terminal.address (moment ∷ past) (marked_by LAG terminal moment past s s) stands st.sends.channel st.sends.end)
     (c.ignore-ignored.ensures terminal.address (moment ∷ past) (marked_by LAG terminal moment past s s) stands))

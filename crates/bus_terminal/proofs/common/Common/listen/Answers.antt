@@ -7,14 +7,21 @@ use Rattle.bus_terminal.proofs.common.Common.listen.Goals as goal
 
 pub listen-requires : goal.listen-requires
 listen-requires c =
-    let (terminal, loads, past, s, st, here, small) = c.requires in
-    (past, s, subst (λ (n : ℕ). EarsStand LAG n c.args.self.now.ears past s) (ap (λ (p : TerminalData). p.address) (sym st.plan) ∙ sym c.own_address-own.ensures) st.ears, here, small)
+    let (terminal, loads, past, s, st, here, small) = c.requires in (
+      past,
+      s,
+      subst (λ (n : ℕ). EarsStand LAG n c.args.self.now.ears past s) (ap (λ (p : TerminalData). p.address)
+          (sym st.plan) ∙ sym c.own_address-own.ensures) st.ears,
+      here,
+      small,
+    )
 
 pub returns-clause-stands : goal.returns-clause-stands
 returns-clause-stands c = λ terminal loads past s after moment st here shown begins.
     let own : c.own_address-own.result ≡ terminal.address = c.own_address-own.ensures ∙ ap (λ (p : TerminalData). p.address) st.plan in
     subst (λ (n : ℕ). EarsStand LAG n c.listen.new.self (moment ∷ past) (marked_by LAG terminal moment past s after)) own
-    (c.listen.ensures.stands terminal past s after moment (sym own) (subst (λ (n : ℕ). EarsStand LAG n c.args.self.now.ears past s) (sym own) st.ears) here shown begins)
+    (c.listen.ensures.stands terminal past s after moment (sym own) (subst (λ (n : ℕ). EarsStand LAG n c.args.self.now.ears past s)
+    (sym own) st.ears) here shown begins)
 
 pub returns-clause-tells : goal.returns-clause-tells
 returns-clause-tells c = λ terminal loads past s moment st here shown.

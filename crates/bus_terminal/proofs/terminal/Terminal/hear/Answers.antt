@@ -26,7 +26,8 @@ unfolding TerminalStands
 returns-clause-took c = λ plan loads hearing st here.
     let now : Moment = record { shown = c.args.heard; may = c.args.may_accept } in
     let s : Standing = standing LAG plan loads hearing.memory hearing.ticks in
-    subst (λ (n : ℕ). TakenIs c.step.result n (channel_of s (order_now LAG plan (now ∷ hearing.ticks) s)) (taken_by LAG plan loads (length hearing.ticks) now.may s (order_now LAG plan (now ∷ hearing.ticks) s)))
+    subst (λ (n : ℕ). TakenIs c.step.result n (channel_of s (order_now LAG plan (now ∷ hearing.ticks) s)) (taken_by LAG plan loads
+    (length hearing.ticks) now.may s (order_now LAG plan (now ∷ hearing.ticks) s)))
     here (c.step.ensures plan loads hearing.ticks s st here).taken
 
 pub returns-clause-accepted : goal.returns-clause-accepted

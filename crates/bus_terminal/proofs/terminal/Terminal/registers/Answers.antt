@@ -7,4 +7,5 @@ use Rattle.bus_terminal.proofs.terminal.Terminal.registers.Goals as goal
 
 pub returns : goal.returns
 unfolding TerminalStands
-returns c = λ plan loads hearing st. rw (c.registers.ensures, c.common.ensures) (ap (λ (m : Memory). m.registers) (state-common LAG plan loads c.args.self.now.state hearing.ticks _ st).memory)
+returns c = λ plan loads hearing st. rw (c.registers.ensures, c.common.ensures) (ap (λ (m : Memory). m.registers)
+    (state-common LAG plan loads c.args.self.now.state hearing.ticks _ st).memory)

@@ -12,4 +12,5 @@ unfolding TerminalStands
 returns c = λ plan loads hearing n st made.
     let common = state-common LAG plan loads c.args.self.now.state hearing.ticks _ st in
     rw (quiet-stands LAG plan loads (memory_after LAG plan loads hearing) n)
-    (woken-stands LAG plan loads c.rest.new.self.state (common_of c.args.self.now.state) hearing.ticks _ (memory_after LAG plan loads hearing) n common c.rest.ensures made common.memory)
+    (woken-stands LAG plan loads c.rest.new.self.state (common_of c.args.self.now.state) hearing.ticks _
+    (memory_after LAG plan loads hearing) n common c.rest.ensures made common.memory)

@@ -1,5 +1,5 @@
 use Rattle.bus_terminal.specs.Heard.{HasHeard}
-use Rattle.bus_terminal.proofs.tests.run.Given as goal
+use Rattle.bus_terminal.proofs.tests.tell.Given as goal
 
 -- it heard the ticks so far
 abbrev pub invariant-loop-now : goal.invariant-loop-now
