@@ -1,3 +1,4 @@
 pub mod Writes
 pub mod Numbered
+pub mod Halfway
 pub mod Parts

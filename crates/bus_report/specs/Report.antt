@@ -1,11 +1,10 @@
 -- The text of a report: attempts, words, bursts, terminals, end.
-use Rattle.std.specs.Prelude.{ℕ, ◌+◌, ◌/◌, ◌%◌, Bool, true, false, ◌&&◌, ◌==◌, nat_lt, if◌then◌else◌, List, [], ◌∷◌, ◌++◌, flat_map, codes, decimal, Option, Some, None, is_some}
+use Rattle.std.specs.Prelude.{ℕ, ◌+◌, Bool, true, false, ◌&&◌, ◌==◌, if◌then◌else◌, List, [], ◌∷◌, ◌++◌, flat_map, codes, is_some}
 use Rattle.std.specs.List.{list_any}
 use Rattle.bus_formats.specs.Logs.{LogData}
-use Rattle.bus_formats.specs.Plans.{PlanData}
+use Rattle.bus_formats.specs.Plans.{StationData, PlanData}
 use Rattle.bus_formats.specs.declared.log.Attempt.{Attempt}
 use Rattle.bus_formats.specs.declared.log.BlockEnd.{BlockEnd}
-use Rattle.bus_formats.specs.declared.log.Heard.{Heard}
 use Rattle.bus_formats.specs.declared.log.HeardBurst.{HeardBurst}
 use Rattle.bus_formats.specs.declared.log.TerminalEnd.{TerminalEnd}
 use Rattle.bus_text.specs.Texts.{spaced, number, word, words, line, channel_text, outcome_text, commands_text, status_text, words_text, word_line}
@@ -47,9 +46,13 @@ block_line b = line (codes "block" ++ number b.address ++ number b.sub ++ words 
 abbrev pub block_of : ℕ → BlockEnd → List ℕ
 block_of address b = if b.address == address then block_line b else []
 
+-- whether it is the station with this address and names a subsystem
+abbrev pub names_subsystem : ℕ → StationData → Bool
+names_subsystem address s = (s.terminal.address == address) && is_some s.terminal.subsystem
+
 -- whether the station with this address names a subsystem
 abbrev pub has_subsystem : PlanData → ℕ → Bool
-has_subsystem plan address = list_any (λ s. (s.terminal.address == address) && is_some s.terminal.subsystem) plan.stations
+has_subsystem plan address = list_any (names_subsystem address) plan.stations
 
 abbrev pub subsystem_line : ℕ → List ℕ → List ℕ
 subsystem_line address text = line (codes "subsystem" ++ number address ++ spaced text)
@@ -58,18 +61,21 @@ subsystem_line address text = line (codes "subsystem" ++ number address ++ space
 abbrev pub terminal_text : List BlockEnd → TerminalEnd → List ℕ
 terminal_text blocks t = terminal_line t ++ flat_map (block_of t.address) blocks
 
--- terminals and their blocks, after each what its subsystem says; the texts are those of the subsystems of these terminals, in order
+-- the line of a terminal's subsystem, if it names one; the texts are those of the subsystems of this terminal and of those after it, in order
+abbrev pub said_by : PlanData → ℕ → List (List ℕ) → List ℕ
+said_by plan address [] = []
+said_by plan address (text ∷ texts) = if has_subsystem plan address then subsystem_line address text else []
+
+-- the texts that are left for the terminals after it
+abbrev pub said_later : PlanData → ℕ → List (List ℕ) → List (List ℕ)
+said_later plan address [] = []
+said_later plan address (text ∷ texts) = if has_subsystem plan address then texts else text ∷ texts
+
+-- terminals and their blocks, after each what its subsystem says
 abbrev pub terminal_lines : List BlockEnd → PlanData → List TerminalEnd → List (List ℕ) → List ℕ
 terminal_lines blocks plan [] texts = []
-terminal_lines blocks plan (t ∷ ts) [] = terminal_text blocks t ++ terminal_lines blocks plan ts []
-terminal_lines blocks plan (t ∷ ts) (text ∷ texts) =
-    terminal_text blocks t
-    ++ (if has_subsystem plan t.address then subsystem_line t.address text ++ terminal_lines blocks plan ts texts
-    else terminal_lines blocks plan ts (text ∷ texts))
-
--- terminals without subsystems
-abbrev pub terminals_text : List BlockEnd → List TerminalEnd → List ℕ
-terminals_text blocks terminals = flat_map (terminal_text blocks) terminals
+terminal_lines blocks plan (t ∷ ts) texts =
+    (terminal_text blocks t ++ said_by plan t.address texts) ++ terminal_lines blocks plan ts (said_later plan t.address texts)
 
 -- ---- the report
 

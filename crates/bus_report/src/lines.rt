@@ -5,6 +5,7 @@ ghost use Rattle.bus_formats.specs.Accepted.{HasKindRanges};
 ghost use Rattle.bus_report.specs.Report as spec;
 
 use bus_formats::{Attempt, BlockEnd, HeardBurst, Registers, TerminalEnd};
+use bus_subsystem::{LineText, Subsystem};
 use bus_text::Line;
 
 /// The line of an attempt, which is the n-th to end.
@@ -86,6 +87,29 @@ pub fn block_line(block: &BlockEnd) -> Line
     line.number(u64::from(block.address));
     line.number(u64::from(block.sub));
     line.words(block.words.words());
+    line.end();
+    line
+}
+
+/// The line of what a terminal's subsystem says.
+pub fn subsystem_line(address: u8, subsystem: &Box<dyn Subsystem>) -> Line
+    ensures { result ≡ spec.subsystem_line address (said subsystem.now) }
+{
+    let mut text = LineText::new();
+    subsystem.line(&mut text);
+    line_of_text(address, text.as_str())
+}
+
+// The line of a terminal's subsystem that says this text.
+fn line_of_text(address: u8, text: &str) -> Line
+    requires { length text.now ≤ 512 }
+    ensures { result ≡ spec.subsystem_line address text.now }
+{
+    let mut line = Line::new();
+    line.text("subsystem");
+    line.number(u64::from(address));
+    line.text(" ");
+    line.text(text);
     line.end();
     line
 }

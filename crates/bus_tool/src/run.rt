@@ -1,8 +1,9 @@
 //! The command `run`: what an input is answered with.
-ghost use Rattle.std.specs.Prelude.{◌≡◌, ℕ, ◌≤◌, ◌⊎◌, Option, Some, List, IfOk, IfSome, true, slice_get};
+ghost use Rattle.std.specs.Prelude.{◌≡◌, ℕ, ◌≤◌, ◌⊎◌, Option, Some, List, [], IfOk, IfSome, true, slice_get};
 ghost use Rattle.bus_formats.specs.Accepted.{HasKindRanges};
 ghost use Rattle.bus_formats.specs.declared.log.Attempt.{Attempt};
-ghost use Rattle.bus_tool.specs.Answers.{Answers, AnswersPlan, AnswersRefused};
+ghost use Rattle.bus_tool.specs.Answers.{Answers, AnswersPlan, AnswersRefused, WroteDue};
+ghost use Rattle.bus_report.specs.Report.{report_text};
 ghost use Rattle.bus_tool.specs.Built.{is_built as is_built_plan};
 
 use crate::built::is_built;
@@ -14,6 +15,7 @@ use bus_formats::{Kind, Plan, RunLog};
 use bus_outside::Sink;
 use bus_plan::{PlanError, read_plan};
 use bus_report::report;
+use bus_subsystem::Subsystem;
 use std::alloc::{AllocError, Global};
 
 /// The status with which a command answers an input that was read, after it wrote what is due.
@@ -48,10 +50,20 @@ fn answer_plan<K: Sink>(alloc: Global, plan: &Plan, sink: &mut K) -> u8
     }
     match run(alloc, plan) {
         Err(_) => 6,
-        Ok(log) => match report(&log, sink) {
-            Ok(()) => 0,
-            Err(_) => 5,
-        },
+        Ok(log) => write_report(alloc, &log, plan, sink),
+    }
+}
+
+// Writes the report of a run without subsystems.
+fn write_report<K: Sink>(alloc: Global, log: &RunLog, plan: &Plan, sink: &mut K) -> u8
+    requires { (a : Attempt) (i : ℕ) → slice_get log.now.attempts i ≡ Some a → HasKindRanges a.kind }
+    ensures wrote { WroteDue (K.held sink.old) (K.held sink.new) (K.faults sink.old) (K.faults sink.new) result 0 (report_text log.now plan.now []) }
+    ensures later { K.faults sink.old ≤ K.faults sink.new }
+{
+    let subsystems: Vec<Box<dyn Subsystem>> = Vec::new(alloc);
+    match report(log, plan, &subsystems, sink) {
+        Ok(()) => 0,
+        Err(_) => 5,
     }
 }
 

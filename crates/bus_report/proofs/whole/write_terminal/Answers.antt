@@ -1,6 +1,5 @@
-use Rattle.std.proofs.Common.{◌∙◌, subst, sym}
+use Rattle.std.proofs.Common.{◌∙◌}
 use Rattle.std.proofs.lemmas.Result.{MatchResult-from_err}
-use Rattle.bus_outside.specs.Causes.{GrowsByFront}
 use Rattle.bus_outside.proofs.Writes.{write_then}
 use Rattle.bus_report.proofs.Writes.{front_of}
 use Rattle.bus_report.proofs.whole.write_terminal.Goals as goal

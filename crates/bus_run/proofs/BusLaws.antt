@@ -1,0 +1,86 @@
+-- One tick of the world of a plan, and what a run that goes on leaves room for.
+use Rattle.std.proofs.Common.{◌≡◌, ℕ, zero, suc, ◌+◌, ◌*◌, ◌<◌, ◌≤◌, min, Bool, true, false, nat_lt, nat_le, ◌||◌, List, [], ◌∷◌, length, map, refl, ap, sym, ◌∙◌, arith, subst}
+use Rattle.std.proofs.lemmas.Bool.Decides.{nat_tests}
+use Rattle.std.proofs.lemmas.List.{length-map}
+use Rattle.bus_base.specs.declared.samples.Pair.{Pair}
+use Rattle.bus_base.specs.declared.samples.Drive.{Drive}
+use Rattle.bus_line.specs.Channels.{valid, bursts}
+use Rattle.bus_line.specs.declared.cutter.TheConstants.{LAG}
+use Rattle.bus_formats.specs.Plans.{PlanData}
+use Rattle.bus_model.specs.World.{Trace, world, trace, ticks_on, drives_after, run_is_over}
+use Rattle.bus_model.specs.WorldLog.{heard_word, heard_burst, attempts}
+use Rattle.bus_run.specs.Amounts.{most_attempts, most_ticks, most_words, most_bursts}
+use Rattle.bus_run.specs.Ends.{is_outgrown, has_ended}
+use Rattle.bus_run.specs.Stands.{shown_in}
+
+-- ---- the world
+
+pub world-next : (plan : PlanData) (t : ℕ) → world LAG plan [] [] [] (suc t) ≡ shown_in plan t ∷ world LAG plan [] [] [] t
+unfolding ticks_on
+world-next plan t = refl
+
+pub driven-next : (plan : PlanData) (t : ℕ) →
+    (trace LAG plan [] [] [] (suc t)).driven ≡ drives_after LAG plan [] [] [] (world LAG plan [] [] [] t) ∷ (trace LAG plan [] [] [] t).driven
+unfolding ticks_on
+driven-next plan t = refl
+
+pub world-none : (plan : PlanData) → world LAG plan [] [] [] 0 ≡ []
+unfolding ticks_on
+world-none plan = refl
+
+pub driven-none : (plan : PlanData) → (trace LAG plan [] [] [] 0).driven ≡ []
+unfolding ticks_on
+driven-none plan = refl
+
+pub world-length : (plan : PlanData) (t : ℕ) → length (world LAG plan [] [] [] t) ≡ t
+world-length plan zero = ap length (world-none plan)
+world-length plan (suc t) = let before = world-length plan t in let next = ap length (world-next plan t) in omega (arith, before, next)
+
+pub driven-length : (plan : PlanData) (t : ℕ) → length (trace LAG plan [] [] [] t).driven ≡ t
+driven-length plan zero = ap length (driven-none plan)
+driven-length plan (suc t) = let before = driven-length plan t in let next = ap length (driven-next plan t) in omega (arith, before, next)
+
+-- ---- the bounds
+
+or-left : (a b : Bool) → (a || b) ≡ false → a ≡ false
+or-left false b none = refl
+or-left true b none = none
+
+or-right : (a b : Bool) → (a || b) ≡ false → b ≡ false
+or-right false b none = none
+or-right true b none = (let no : true ≡ false = none in cc)
+
+pub most-attempts-few : (plan : PlanData) → most_attempts plan ≤ 0x8000_0000
+unfolding most_attempts
+most-attempts-few plan = omega arith
+
+most-ticks-few : (plan : PlanData) → most_ticks plan ≤ 4294967295
+unfolding most_ticks
+most-ticks-few plan = omega arith
+
+-- a run that goes on has not come to its bounds
+pub record GoesOn (plan : PlanData) (t : ℕ) : Type 0 where
+  pub ticks : t < most_ticks plan
+  pub small : t < 4294967295
+  pub attempts_left : length (attempts LAG plan [] [] [] (world LAG plan [] [] [] t)) ≤ most_attempts plan
+  pub words_left : length (map heard_word (valid LAG (world LAG plan [] [] [] t))) ≤ most_words plan
+  pub bursts_left : length (map heard_burst (bursts LAG (world LAG plan [] [] [] t))) ≤ most_bursts plan
+
+pub goes-on : (plan : PlanData) (t : ℕ) → has_ended plan t ≡ false → GoesOn plan t
+unfolding has_ended
+goes-on plan t on =
+    let past : List Pair = world LAG plan [] [] [] t in
+    let ticks : nat_le (most_ticks plan) t ≡ false = or-left _ _ on in
+    let grown : is_outgrown plan past ≡ false = or-left _ _ (or-right _ _ on) in
+    let by-attempts : nat_lt (most_attempts plan) (length (attempts LAG plan [] [] [] past)) ≡ false = or-left _ _ grown in
+    let by-words : nat_lt (most_words plan) (length (valid LAG past)) ≡ false = or-left _ _ (or-right _ _ grown) in
+    let by-bursts : nat_lt (most_bursts plan) (length (bursts LAG past)) ≡ false = or-right _ _ (or-right _ _ grown) in
+    let below : t < most_ticks plan = grind (arith, nat_tests, ticks) in
+    let few = most-ticks-few plan in
+    record {
+      ticks = below;
+      small = omega (arith, below, few);
+      attempts_left = grind (arith, nat_tests, by-attempts);
+      words_left = rw (length-map (valid LAG past) heard_word) (grind (arith, nat_tests, by-words));
+      bursts_left = rw (length-map (bursts LAG past) heard_burst) (grind (arith, nat_tests, by-bursts));
+    }

@@ -1,0 +1,44 @@
+-- Whether every station is idle and none is taking control.
+use Rattle.std.proofs.Common.{◌≡◌, ℕ, zero, suc, ◌+◌, ◌<◌, Bool, true, false, not, ◌&&◌, List, [], ◌∷◌, length, drop, refl, ap, sym, ◌∙◌, arith, add-one, Option, Some, None, if◌then◌else◌}
+use Rattle.std.specs.Prelude.{is_none, slice_get}
+use Rattle.std.specs.List.{list_all}
+use Rattle.std.proofs.lemmas.Option.{same_Some}
+use Rattle.bus_station.specs.Roles.{role_by}
+use Rattle.bus_station.specs.declared.role.Role.{Role}
+use Rattle.bus_run.specs.Crews.{takes}
+
+-- a station that doesn't hold control isn't taking it
+pub takes-by : (holds : Bool) (taking : Option ℕ) → takes (role_by holds (if holds then taking else None)) ≡ not (is_none (if holds then taking else None))
+takes-by false taking = refl
+takes-by true None = refl
+takes-by true (Some first) = refl
+
+not-not : (b : Bool) → not (not b) ≡ b
+not-not true = refl
+not-not false = refl
+
+pub none-taking : (idle : Bool) (role : Role) (holds : Bool) (taking : Option ℕ) → role ≡ role_by holds (if holds then taking else None) →
+    (idle && not (takes role)) ≡ (idle && is_none (if holds then taking else None))
+none-taking idle role holds taking is =
+    ap (λ r. idle && not (takes r)) is ∙ ap (λ b. idle && not b) (takes-by holds taking) ∙ ap (λ b. idle && b) (not-not (is_none (if holds then taking else None)))
+
+from : {A : Type 0} (xs : List A) (i : ℕ) (x : A) → slice_get xs i ≡ Some x → drop i xs ≡ x ∷ drop (suc i) xs
+from [] i x here = (let no : None ≡ Some x = here in cc)
+from (y ∷ xs) zero x here = ap (λ z. z ∷ xs) (same_Some y x here)
+from (y ∷ xs) (suc i) x here = from xs i x here
+
+pub rest-from : {A : Type 0} (xs : List A) (i : ℕ) (x : A) → slice_get xs i ≡ Some x → drop i xs ≡ x ∷ drop (i + 1) xs
+rest-from xs i x here = from xs i x here ∙ ap (λ n. x ∷ drop n xs) (sym (add-one i))
+
+-- one that is done leaves the others to be asked
+pub all-next : {A : Type 0} (p : A → Bool) (xs : List A) (i : ℕ) (x : A) → slice_get xs i ≡ Some x → p x ≡ true →
+    list_all p (drop i xs) ≡ list_all p (drop (i + 1) xs)
+all-next p xs i x here is = ap (list_all p) (rest-from xs i x here) ∙ ap (λ b. b && list_all p (drop (i + 1) xs)) is
+
+-- one that isn't is enough
+pub all-ends : {A : Type 0} (p : A → Bool) (xs : List A) (i : ℕ) (x : A) → slice_get xs i ≡ Some x → p x ≡ false → list_all p (drop i xs) ≡ false
+all-ends p xs i x here is = ap (list_all p) (rest-from xs i x here) ∙ ap (λ b. b && list_all p (drop (i + 1) xs)) is
+
+pub all-asked : {A : Type 0} (p : A → Bool) (xs : List A) (n : ℕ) → n ≡ length xs → list_all p (drop n xs) ≡ true
+all-asked p [] n is = rw is refl
+all-asked p (x ∷ xs) n is = rw is (all-asked p xs (length xs) refl)

@@ -1,0 +1,21 @@
+use Rattle.std.proofs.Common.{◌≡◌, ◌≤◌, ◌∙◌, ◌*◌, ◌||◌, nat_lt, length, ap, sym, arith, []}
+use Rattle.std.proofs.lemmas.List.{length-map}
+use Rattle.bus_line.specs.Channels.{valid, bursts}
+use Rattle.bus_line.specs.declared.cutter.TheConstants.{LAG}
+use Rattle.bus_model.specs.World.{world}
+use Rattle.bus_model.specs.WorldLog.{heard_word, heard_burst}
+use Rattle.bus_run.specs.Stands.{BusStands, Stands}
+use Rattle.bus_run.proofs.BusLaws.{most-attempts-few}
+use Rattle.bus_run.proofs.bus.Bus.is_outgrown.Goals as goal
+
+pub is_past-requires : goal.is_past-requires
+unfolding BusStands
+is_past-requires c =
+    let (plan, t, st) = c.requires in
+    let is = st.most_attempts_are in
+    let few = most-attempts-few plan in
+    omega (arith, is, few)
+
+pub returns : goal.returns
+unfolding BusStands
+returns c plan t st = ?

@@ -1,0 +1,39 @@
+-- How many attempts and ticks a run of a plan can have at most.
+use Rattle.std.specs.Prelude.{ℕ, ◌+◌, ◌*◌, min, length, sum_by}
+use Rattle.bus_formats.specs.Plans.{ItemData, FrameData, StationData, PlanData}
+
+-- no amount is counted further than this; those of an accepted plan are below it
+abbrev pub counted : ℕ → ℕ
+counted amount = min 0x8000_0000 amount
+
+-- an item's first attempt and its retries
+abbrev pub attempts_of_item : ItemData → ℕ
+attempts_of_item item = 1 + length item.retry
+
+abbrev pub attempts_of_frame : FrameData → ℕ
+attempts_of_frame frame = sum_by attempts_of_item frame.items
+
+abbrev pub attempts_of_station : StationData → ℕ
+attempts_of_station station = station.repeat * sum_by attempts_of_frame station.frames
+
+-- all attempts that the items of a plan can have
+unfoldable pub most_attempts : PlanData → ℕ
+most_attempts plan = counted (sum_by attempts_of_station plan.stations)
+
+abbrev pub ticks_of_station : StationData → ℕ
+ticks_of_station station = station.repeat * sum_by (λ f. f.ticks) station.frames
+
+-- the ticks of all frames
+unfoldable pub frame_ticks : PlanData → ℕ
+frame_ticks plan = counted (sum_by ticks_of_station plan.stations)
+
+-- a run has no more ticks: those of its frames, 10,000 for each attempt, and those before the first and after the last
+unfoldable pub most_ticks : PlanData → ℕ
+most_ticks plan = min 4294967295 (88 + frame_ticks plan + 10000 * most_attempts plan)
+
+-- each attempt shows at most three bursts, each of at most forty words
+abbrev pub most_bursts : PlanData → ℕ
+most_bursts plan = 3 * most_attempts plan
+
+abbrev pub most_words : PlanData → ℕ
+most_words plan = 120 * most_attempts plan

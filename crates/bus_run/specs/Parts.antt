@@ -1,0 +1,25 @@
+-- For which ticks of a plan's world the parts of a bus stand: what the channels showed, and what was driven, the newest tick first.
+use Rattle.std.specs.Prelude.{◌≡◌, ℕ, ◌≤◌, List, [], length, slice_get, Some}
+use Rattle.bus_base.specs.declared.samples.Drive.{Drive}
+use Rattle.bus_base.specs.declared.samples.Pair.{Pair}
+use Rattle.bus_line.specs.declared.cutter.TheConstants.{LAG}
+use Rattle.bus_formats.specs.Plans.{StationData, PlanData}
+use Rattle.bus_model.specs.Starts.{starts}
+use Rattle.bus_model.specs.World.{clashes}
+use Rattle.bus_station.specs.StationStands.{StationStands}
+use Rattle.bus_station.specs.declared.station.Station.{Station}
+use Rattle.bus_wire.specs.WireStands.{WireStands}
+use Rattle.bus_run.specs.declared.cable.Cable.{Cable}
+
+-- each station stands for its plan and what the channels showed
+pub record StationsStand (plan : PlanData) (stations : List Station) (past : List Pair) : Type 0 where
+  pub all : length stations ≡ length plan.stations
+  pub each : (i : ℕ) (s : StationData) (value : Station) → slice_get plan.stations i ≡ Some s → slice_get stations i ≡ Some value →
+      StationStands LAG s (starts plan s) [] [] value past
+
+-- the wire stands for what was driven, with a place for the drive of each station
+pub record CableStands (plan : PlanData) (cable : Cable) (driven : List (List Drive)) : Type 0 where
+  pub wire : WireStands plan.faults cable.wire driven
+  pub drives : length cable.drives.items ≡ length plan.stations
+  pub few : length plan.stations ≤ 32
+  pub clashes_are : cable.clashes ≡ clashes plan.faults driven
