@@ -1,0 +1,7 @@
+//! What a station does of all that it hears: the second of the laws by which the world does what the message table says. Laws alone, each
+//! the contract of an empty function, over one station and any past. Proved: quiet ticks change nothing of a station before something is due.
+#![tactic(auto)]
+
+pub mod silence;
+
+pub use silence::quiet_ticks_change_no_terminal;
