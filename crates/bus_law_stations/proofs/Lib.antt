@@ -1,2 +1,4 @@
 pub mod Resting
 pub mod StillTerminal
+pub mod StillController
+pub mod StillStation

@@ -65,7 +65,7 @@ over-quiet k (suc n) past a over =
     some-from (end_since k (quiet_ticks n ++ past) a) (end_since k (Quiet ∷ (quiet_ticks n ++ past)) a)
     (λ e. end_since-stays k Quiet (quiet_ticks n ++ past) a e) (over-quiet k n past a over)
 
-cases-option : {X : Type 0} (o : Option X) → (o ≡ None) ⊎ ((a : X) × (o ≡ Some a))
+pub cases-option : {X : Type 0} (o : Option X) → (o ≡ None) ⊎ ((a : X) × (o ≡ Some a))
 cases-option None = inl refl
 cases-option (Some a) = inr (a, refl)
 

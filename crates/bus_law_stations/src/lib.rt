@@ -4,4 +4,4 @@
 
 pub mod silence;
 
-pub use silence::quiet_ticks_change_no_terminal;
+pub use silence::{quiet_ticks_change_no_controller, quiet_ticks_change_no_station, quiet_ticks_change_no_terminal};
