@@ -2,3 +2,6 @@ pub mod Resting
 pub mod StillTerminal
 pub mod StillController
 pub mod StillStation
+pub mod LegTicks
+pub mod Ready
+pub mod Obeying
