@@ -5,3 +5,4 @@ pub mod StillStation
 pub mod LegTicks
 pub mod Ready
 pub mod Obeying
+pub mod BurstEnds

@@ -90,15 +90,15 @@ tick-settles k t loads s c now past e rest slots some fresh other own =
 
 -- ---- the other channel
 
-not-other : (c : Channel) → same_channel c (other_of c) ≡ false
+pub not-other : (c : Channel) → same_channel c (other_of c) ≡ false
 not-other A = refl
 not-other B = refl
 
-three-not : (a b c : Bool) → (a ≡ true → b ≡ false) → (a && b && c) ≡ false
+pub three-not : (a b c : Bool) → (a ≡ true → b ≡ false) → (a && b && c) ≡ false
 three-not false b c h = refl
 three-not true b c h = rw (h refl) refl
 
-three-first : (a b c : Bool) → a ≡ false → (a && b && c) ≡ false
+pub three-first : (a b c : Bool) → a ≡ false → (a && b && c) ≡ false
 three-first a b c none = rw none refl
 
 promised-other : (k : ℕ) (s : Standing) (c : Channel) (m : Option ℕ) → (is_promise s.duty ≡ true → s.channel ≡ c) →
@@ -113,15 +113,18 @@ burst-unheeded k t s c None promised none = refl
 burst-unheeded k t s c (Some burst) promised none = ap (order_by k t s c burst) (none burst refl) ∙ (rw promised refl)
 
 -- brings no order
+pub order-unheeded : (k : ℕ) (t : TerminalData) (s : Standing) (c : Channel) (now : Moment) (past : List Moment) → promised_on k s c ≡ false →
+    IsUnheeded k t s c (now ∷ past) → order_on k t (now ∷ past) s c ≡ None
+order-unheeded k t s c now past promised (inl ignored) = rw ignored refl
+order-unheeded k t s c now past promised (inr none) =
+    either-none (ignored_from k (heard_on c past) (mark_on s.sent c)) (order_of k t s c (ended_now k (heard_on c (now ∷ past))))
+    (burst-unheeded k t s c (ended_now k (heard_on c (now ∷ past))) promised none.1)
+
 pub order-other : (k : ℕ) (t : TerminalData) (s : Standing) (c : Channel) (m : Option ℕ) (now : Moment) (past : List Moment) →
     (is_promise s.duty ≡ true → s.channel ≡ c) → IsUnheeded k t s (other_of c) (now ∷ past) → order_on k t (now ∷ past) (with_addressed s c m) (other_of c) ≡ None
-order-other k t s c m now past on (inl ignored) = rw ignored refl
-order-other k t s c m now past on (inr none) =
-    either-none (ignored_from k (heard_on (other_of c) past) (mark_on s.sent (other_of c)))
-    (order_of k t (with_addressed s c m) (other_of c) (ended_now k (heard_on (other_of c) (now ∷ past))))
-    (burst-unheeded k t (with_addressed s c m) (other_of c) (ended_now k (heard_on (other_of c) (now ∷ past))) (promised-other k s c m on) none.1)
+order-other k t s c m now past on none = order-unheeded k t (with_addressed s c m) (other_of c) now past (promised-other k s c m on) none
 
-mark-kept : (b i : Bool) (tick : ℕ) (mark : Option ℕ) → (i ≡ true) ⊎ (b ≡ false) → (if b && not i then Some tick else mark) ≡ mark
+pub mark-kept : (b i : Bool) (tick : ℕ) (mark : Option ℕ) → (i ≡ true) ⊎ (b ≡ false) → (if b && not i then Some tick else mark) ≡ mark
 mark-kept true true tick mark h = refl
 mark-kept false i tick mark h = refl
 mark-kept true false tick mark (inl h) = absurd (grind (arith, h))
@@ -133,12 +136,16 @@ unheeded-or k t s c now past (inl ignored) = inl ignored
 unheeded-or k t s c now past (inr none) = inr none.0
 
 -- and leaves its mark
+pub mark-unheeded : (k : ℕ) (t : TerminalData) (s : Standing) (c : Channel) (now : Moment) (past : List Moment) → IsUnheeded k t s c (now ∷ past) →
+    addressed_on k t (now ∷ past) s c ≡ mark_on s.addressed c
+mark-unheeded k t s c now past none =
+    mark-kept (is_addressed t.address (slot_now k (heard_on c (now ∷ past)))) (ignored_from k (heard_on c past) (mark_on s.sent c))
+    (length past) (mark_on s.addressed c) (unheeded-or k t s c now past none)
+
 pub mark-other : (k : ℕ) (t : TerminalData) (s : Standing) (c : Channel) (m : Option ℕ) (now : Moment) (past : List Moment) →
     IsUnheeded k t s (other_of c) (now ∷ past) →
     addressed_on k t (now ∷ past) (with_addressed s c m) (other_of c) ≡ mark_on (with_addressed s c m).addressed (other_of c)
-mark-other k t s c m now past none =
-    mark-kept (is_addressed t.address (slot_now k (heard_on (other_of c) (now ∷ past)))) (ignored_from k (heard_on (other_of c) past) (mark_on s.sent (other_of c)))
-    (length past) (mark_on (with_addressed s c m).addressed (other_of c)) (unheeded-or k t s (other_of c) now past none)
+mark-other k t s c m now past none = mark-unheeded k t (with_addressed s c m) (other_of c) now past none
 
 -- ---- its own channel
 
@@ -167,7 +174,7 @@ order-heeded k t s c m now past heeded = rw heeded refl
 
 -- ---- what is due
 
-moments-append : (ticks heard : List Moment) → length (ticks ++ heard) ≡ length ticks + length heard
+pub moments-append : (ticks heard : List Moment) → length (ticks ++ heard) ≡ length ticks + length heard
 moments-append ticks heard = length-append ticks heard
 
 -- no answer begins
