@@ -76,7 +76,7 @@ by-obeys : (k : ℕ) (t : TerminalData) (u : Standing) (c : Channel) (burst : Bu
     order_by k t u c burst last ≡ Some (obeys c (end_of burst) order (rest_of burst))
 by-obeys k t u c burst order last some first = rw (some, first) refl
 
-same-itself : (c : Channel) → same_channel c c ≡ true
+pub same-itself : (c : Channel) → same_channel c c ≡ true
 same-itself A = refl
 same-itself B = refl
 

@@ -6,3 +6,4 @@ pub mod LegTicks
 pub mod Ready
 pub mod Obeying
 pub mod BurstEnds
+pub mod SenderTicks

@@ -54,16 +54,18 @@ pub fn a_burst_is_obeyed_or_taken()
         × (took_now k terminal loads record { memory = memory; ticks = now ∷ (ticks ++ heard) } ≡ None) }
 {}
 
-/// A terminal that answers sends on while its channel isn't quiet for k + 1 ticks in a row, and ignores there what it sends, to the tick in which
-/// the end is known.
+/// A terminal that answers sends its words, sample by sample, while its channel isn't quiet for k + 1 ticks in a row, whatever is shown of them;
+/// and it ignores them, to the tick in which their end becomes known: nothing changes of it but that its transmission is marked. At every lag.
 pub fn a_sender_ignores_what_it_sends()
     ensures sends { (k : ℕ) (terminal : TerminalData) (loads : List TimedLoad) (memory : Memory) (c : Channel) (heard ticks : List Moment)
-        (words : List Word) (acceptance : Bool) → k < 40 → let s = standing k terminal loads memory heard in
+        (words : List Word) (acceptance : Bool) → let s = standing k terminal loads memory heard in
         BeginsAnswer k terminal s c heard → HearsBurst k terminal s c heard ticks → s.duty ≡ owes words acceptance →
         drives k terminal loads record { memory = memory; ticks = ticks ++ heard } ≡ drive_sample c s.part words (length ticks) }
-    ensures ignores { (k : ℕ) (terminal : TerminalData) (loads : List TimedLoad) (memory : Memory) (c : Channel) (heard ticks : List Moment)
-        (now first : Moment) (burst : Burst) → k < 40 → let s = standing k terminal loads memory heard in
-        BeginsAnswer k terminal s c heard → HearsBurst k terminal s c heard (first ∷ ticks) → IsUnheeded k terminal s (other_of c) (now ∷ ((first ∷ ticks) ++ heard)) →
-        ended_now k (heard_on c (now ∷ ((first ∷ ticks) ++ heard))) ≡ Some burst →
+    ensures stands { (k : ℕ) (terminal : TerminalData) (loads : List TimedLoad) (memory : Memory) (c : Channel) (heard ticks : List Moment) (first : Moment) →
+        let s = standing k terminal loads memory heard in BeginsAnswer k terminal s c heard → HearsBurst k terminal s c heard (first ∷ ticks) →
+        standing k terminal loads memory ((first ∷ ticks) ++ heard) ≡ with_sent s c (Some (length heard)) }
+    ensures ends { (k : ℕ) (terminal : TerminalData) (loads : List TimedLoad) (memory : Memory) (c : Channel) (heard ticks : List Moment) (now first : Moment) →
+        let s = standing k terminal loads memory heard in BeginsAnswer k terminal s c heard → HearsBurst k terminal s c heard (first ∷ ticks) →
+        IsUnheeded k terminal s (other_of c) (now ∷ ((first ∷ ticks) ++ heard)) →
         standing k terminal loads memory (now ∷ ((first ∷ ticks) ++ heard)) ≡ with_sent s c (Some (length heard)) }
 {}
