@@ -6,6 +6,7 @@ use Rattle.std.specs.List.{list_any}
 use Rattle.bus_base.specs.declared.samples.Channel.{Channel}
 use Rattle.bus_base.specs.declared.samples.Channel.TheVariants.{A, B}
 use Rattle.bus_base.specs.declared.samples.Part.{Part}
+use Rattle.bus_base.specs.declared.samples.Pair.{Pair}
 use Rattle.bus_base.specs.declared.samples.Sample.{Sample}
 use Rattle.bus_base.specs.declared.samples.Drive.{Drive}
 use Rattle.bus_base.specs.declared.samples.Drive.TheVariants.{On}
@@ -181,7 +182,8 @@ left-quiet faults c before (now ∷ silent) h =
 
 -- ---- the world
 
-shown-now : (faults : List Fault) (c : Channel) (driven : List (List Drive)) (past : _) → on_channel c (shown faults driven ∷ past) ≡ shown_of (samples_on faults c driven) ∷ on_channel c past
+shown-now : (faults : List Fault) (c : Channel) (driven : List (List Drive)) (past : List Pair) →
+    on_channel c (shown faults driven ∷ past) ≡ shown_of (samples_on faults c driven) ∷ on_channel c past
 shown-now faults A driven past = refl
 shown-now faults B driven past = refl
 

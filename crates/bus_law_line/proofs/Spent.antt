@@ -59,7 +59,8 @@ not-last : (c : Channel) (drive : Drive) → drives_on c drive ≡ false → dri
 not-last c Silent silent = refl
 not-last c (On d sample part last) silent = rw silent refl
 
-last-same : (b : Bool) (tick : ℕ) (o : Option ℕ) → ((if b then None else last_or_now false tick o) ≡ None) ⊎ ((if b then None else last_or_now false tick o) ≡ o)
+last-same : (b : Bool) (tick : ℕ) (o : Option ℕ) →
+    ((if b then None else last_or_now false tick o) ≡ None) ⊎ ((if b then None else last_or_now false tick o) ≡ o)
 last-same true tick o = inl refl
 last-same false tick None = inr refl
 last-same false tick (Some m) = inr refl
@@ -114,7 +115,8 @@ extra-later t now driven tick words (Some last) between silent late none =
     (λ h. grind (arith, nat_tests, h, late))
     (λ h. grind (arith, nat_tests, h, late))
     (λ h. rw (drove, silent) at h)
-    (λ h. beside-before (not (is_command t)) (list_any (drives_on (other_of t.channel)) now) (driven_since (other_of t.channel) driven t.first) (rw beside at h))
+    (λ h. beside-before (not (is_command t)) (list_any (drives_on (other_of t.channel)) now) (driven_since (other_of t.channel) driven t.first)
+    (rw beside at h))
     (was-false _ _ none))
 
 extra-none : (t : Transmission) (driven : List (List Drive)) (tick words : ℕ) (o : Option ℕ) → o ≡ None → extra_after t driven tick words o ≡ None

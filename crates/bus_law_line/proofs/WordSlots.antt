@@ -124,7 +124,11 @@ sent-ended k faults s hits before sent silent none h heard some whole left quiet
     ∙ ap (λ xs. ended_now k (quiet_ticks (suc k) ++ xs)) (all-samples faults s hits before sent h)
     ∙ ap (λ n. ended_now k (quiet_ticks (suc k) ++ (struck_spelling hits s.words n ++ shown_on faults s.channel before))) whole
     ∙ ended-row k (struck_of hits s.words) (40 * length s.words) (shown_on faults s.channel before) none (omega (arith, some)) heard
-    ∙ ap (λ p. Some (record { first = p; ticks = 40 * length s.words; slots = (burst_from (struck_spelling hits s.words (40 * length s.words)) 0 (40 * length s.words)).slots }))
+    ∙ ap (λ p. Some (record {
+      first = p;
+      ticks = 40 * length s.words;
+      slots = (burst_from (struck_spelling hits s.words (40 * length s.words)) 0 (40 * length s.words)).slots;
+    }))
     (length-shown faults s before)
     ∙ ap (λ slots. Some (record { first = length before; ticks = 40 * length s.words; slots = slots })) (slots-sent hits s.words)
 

@@ -1,17 +1,16 @@
 -- What a terminal does where the end of a burst becomes known.
-use Rattle.std.proofs.Common.{◌≡◌, ◌⊎◌, inl, inr, ℕ, suc, ◌+◌, ◌<◌, ◌≤◌, Bool, true, false, not, List, [], ◌∷◌, ◌++◌, length, Option, Some, None, refl, sym, ap, ◌∙◌, arith}
+use Rattle.std.proofs.Common.{◌≡◌, ℕ, suc, ◌+◌, ◌<◌, ◌≤◌, Bool, true, false, not, List, [], ◌∷◌, ◌++◌, length, Option, Some, None, refl, sym, ap, ◌∙◌, arith}
 use Rattle.std.proofs.lemmas.Bool.{and_from, le-leb, true≢false}
 use Rattle.std.proofs.lemmas.Bool.Decides.{nat_tests}
 use Rattle.std.proofs.lemmas.Option.{none-some, same_Some}
-use Rattle.std.specs.Prelude.{◌&&◌, ◌||◌, ◌==◌, nat_lt, nat_le, if◌then◌else◌, is_some}
+use Rattle.std.specs.Prelude.{◌&&◌, nat_le, if◌then◌else◌, is_some}
 use Rattle.std.specs.Option.{option_or}
 use Rattle.bus_base.specs.Samples.{sample_on, other_of, same_channel}
 use Rattle.bus_base.specs.declared.samples.Channel.{Channel}
 use Rattle.bus_base.specs.declared.samples.Channel.TheVariants.{A, B}
 use Rattle.bus_base.specs.declared.samples.Sample.{Sample}
 use Rattle.bus_base.specs.declared.samples.Drive.TheVariants.{Silent}
-use Rattle.bus_words.specs.declared.word.Word.{Word}
-use Rattle.bus_line.specs.Past.{Burst, runs, first_tick, ended_now, slot_now, end_of, rest_of}
+use Rattle.bus_line.specs.Past.{Burst, first_tick, ended_now, end_of, rest_of}
 use Rattle.bus_line.proofs.CollectLaws.{end-closes}
 use Rattle.bus_line.proofs.Legs.{first_tick-leg}
 use Rattle.bus_formats.specs.Plans.{TerminalData}
@@ -19,12 +18,12 @@ use Rattle.bus_model.specs.Waits.{relay_wait}
 use Rattle.bus_model.specs.Memory.{Memory, TimedLoad, with_loads}
 use Rattle.bus_model.specs.Orders.{Duty, free, owes, promises, Order, Obeyed, last_order, obey, keep_promise}
 use Rattle.bus_model.specs.Hearing.{Moment, heard_on, is_addressed}
-use Rattle.bus_model.specs.Standing.{Standing, mark_on, Handled, obeys, settles, superseded, is_newer, outrun, is_owed, is_promise, promised_on}
-use Rattle.bus_model.specs.Terminal.{drive_duty, order_by, order_of, order_on, running_out, order_now, addressed_on, begins, after_tick, after_order, kept_by, done_by, done_in, taken_by, standing, drives, took_now}
-use Rattle.bus_law_stations.specs.Legs.{with_addressed, IsUnheeded, HearsBurst, IsReady, after_command, after_promise}
+use Rattle.bus_model.specs.Standing.{Standing, mark_on, obeys, settles, superseded, is_newer, outrun, is_owed, is_promise, promised_on}
+use Rattle.bus_model.specs.Terminal.{drive_duty, order_by, order_of, order_on, running_out, order_now, addressed_on, after_tick, after_order, kept_by, done_in, taken_by, standing, drives, took_now}
+use Rattle.bus_law_stations.specs.Legs.{with_addressed, IsUnheeded, HearsBurst, IsReady, obeyed_in, settled_in, after_command, after_promise}
 use Rattle.bus_law_stations.proofs.Resting.{heard-long}
 use Rattle.bus_law_stations.proofs.LegTicks.{heard-append, end-no-slot, end-slots}
-use Rattle.bus_law_stations.proofs.Ready.{other-mark, own-mark, same-mark, marked-twice, orders-none, orders-some, tick-marks, tick-obeys, tick-settles, order-other, mark-other, mark-own, ready-heeded, order-heeded, ready-begins, three-first}
+use Rattle.bus_law_stations.proofs.Ready.{own-mark, same-mark, marked-twice, orders-none, orders-some, tick-marks, tick-obeys, tick-settles, order-other, mark-other, mark-own, ready-heeded, order-heeded, ready-begins, three-first}
 use Rattle.bus_law_stations.proofs.Obeying.{Marking, marking}
 
 -- ---- marks are of ticks that were heard
@@ -72,7 +71,8 @@ end-order k t s c m now heard ticks burst ready ended =
 
 -- ---- a command
 
-by-obeys : (k : ℕ) (t : TerminalData) (u : Standing) (c : Channel) (burst : Burst) (order : Order) (last : Option Order) → last ≡ Some order → outrun u c ≡ false →
+by-obeys : (k : ℕ) (t : TerminalData) (u : Standing) (c : Channel) (burst : Burst) (order : Order) (last : Option Order) → last ≡ Some order →
+    outrun u c ≡ false →
     order_by k t u c burst last ≡ Some (obeys c (end_of burst) order (rest_of burst))
 by-obeys k t u c burst order last some first = rw (some, first) refl
 
@@ -96,7 +96,8 @@ module _ (k : ℕ) (t : TerminalData) (loads : List TimedLoad) (memory : Memory)
     (beside : IsUnheeded k t (standing k t loads memory heard) (other_of c) (now ∷ (ticks ++ heard)))
     (ended : ended_now k (heard_on c (now ∷ (ticks ++ heard))) ≡ Some burst) where
   obeys-order : (tick : ℕ) (order : Order) → length heard ≤ tick → last_order t.address burst.slots ≡ Some order →
-      order_now k t (now ∷ (ticks ++ heard)) (with_addressed (standing k t loads memory heard) c (Some tick)) ≡ Some (obeys c (end_of burst) order (rest_of burst))
+      order_now k t (now ∷ (ticks ++ heard)) (with_addressed (standing k t loads memory heard) c (Some tick))
+      ≡ Some (obeys c (end_of burst) order (rest_of burst))
   obeys-order tick order late last =
       let s = standing k t loads memory heard in
       let u = with_addressed s c (Some tick) in
@@ -109,7 +110,7 @@ module _ (k : ℕ) (t : TerminalData) (loads : List TimedLoad) (memory : Memory)
   obeys-tick : (tick : ℕ) (order : Order) → length heard ≤ tick → last_order t.address burst.slots ≡ Some order →
       after_tick k t loads now (ticks ++ heard) (with_addressed (standing k t loads memory heard) c (Some tick))
       ≡ after_command (standing k t loads memory heard) c (end_of burst) tick
-      (obey t (with_loads t.address (length (ticks ++ heard)) loads (standing k t loads memory heard).memory) c order.command order.tail (rest_of burst) now.may)
+      (obeyed_in t loads (length (ticks ++ heard)) (standing k t loads memory heard) c order (rest_of burst) now.may)
   obeys-tick tick order late last =
       let s = standing k t loads memory heard in
       let u = with_addressed s c (Some tick) in
@@ -134,18 +135,21 @@ module _ (k : ℕ) (t : TerminalData) (loads : List TimedLoad) (memory : Memory)
       (left.0, within.0, within.1, m.stands ∙ ap (λ v. with_addressed s c (option_or v (mark_on s.addressed c))) left.1)
 
   pub obeyed : HearsBurst k t (standing k t loads memory heard) c heard ticks → k < 40 → (order : Order) → last_order t.address burst.slots ≡ Some order →
-      let o : Obeyed = obey t (with_loads t.address (length (ticks ++ heard)) loads (standing k t loads memory heard).memory) c order.command order.tail (rest_of burst) now.may in
+      let o : Obeyed = obeyed_in t loads (length (ticks ++ heard)) (standing k t loads memory heard) c order (rest_of burst) now.may in
       (slot_end : ℕ) × (length heard ≤ slot_end) × (slot_end < length (ticks ++ heard))
       × (standing k t loads memory (now ∷ (ticks ++ heard)) ≡ after_command (standing k t loads memory heard) c (end_of burst) slot_end o)
       × (took_now k t loads record { memory = memory; ticks = now ∷ (ticks ++ heard) } ≡ o.taken)
   unfolding standing
   obeyed hears small order last =
       let past = ticks ++ heard in
-      let m = commands (marking k t loads memory c heard ticks small ready hears) order last in
-      (m.0, m.1, m.2,
-      ap (after_tick k t loads now past) m.3 ∙ obeys-tick m.0 order m.1 last,
-      ap (λ (u : Standing). taken_by k t loads (length past) now.may u (order_now k t (now ∷ past) u)) m.3
-      ∙ ap (taken_by k t loads (length past) now.may (with_addressed (standing k t loads memory heard) c (Some m.0))) (obeys-order m.0 order m.1 last))
+      let m = commands (marking k t loads memory c heard ticks small ready hears) order last in (
+        m.0,
+        m.1,
+        m.2,
+        ap (after_tick k t loads now past) m.3 ∙ obeys-tick m.0 order m.1 last,
+        ap (λ (u : Standing). taken_by k t loads (length past) now.may u (order_now k t (now ∷ past) u)) m.3
+            ∙ ap (taken_by k t loads (length past) now.may (with_addressed (standing k t loads memory heard) c (Some m.0))) (obeys-order m.0 order m.1 last),
+      )
 
   -- ---- no command
 
@@ -172,7 +176,7 @@ module _ (k : ℕ) (t : TerminalData) (loads : List TimedLoad) (memory : Memory)
 
   pub settled : HearsBurst k t (standing k t loads memory heard) c heard ticks → k < 40 → (command transmitter : ℕ) → last_order t.address burst.slots ≡ None →
       (standing k t loads memory heard).duty ≡ promises command transmitter → superseded k (standing k t loads memory heard) ≡ false →
-      let o : Obeyed = keep_promise t (with_loads t.address (length (ticks ++ heard)) loads (standing k t loads memory heard).memory) c command transmitter burst.slots (rest_of burst) in
+      let o : Obeyed = settled_in t loads (length (ticks ++ heard)) (standing k t loads memory heard) c command transmitter burst in
       (standing k t loads memory (now ∷ (ticks ++ heard)) ≡ after_promise (standing k t loads memory heard) (end_of burst) o)
       × (took_now k t loads record { memory = memory; ticks = now ∷ (ticks ++ heard) } ≡ o.taken)
   unfolding standing
@@ -194,17 +198,18 @@ module _ (k : ℕ) (t : TerminalData) (loads : List TimedLoad) (memory : Memory)
       (order-other k t s c old now past (λ promise. (ready.promise promise).0) beside) in
       let memory_then = with_loads t.address (length past) loads s.memory in
       let kept = ap (λ x. kept_by k t memory_then x s.duty burst.slots (rest_of burst)) made.0
-      ∙ ap (λ d. kept_by k t memory_then c d burst.slots (rest_of burst)) duty in
-      (ap (after_tick k t loads now past) before
-      ∙ tick-settles k t loads u c now past (end_of burst) (rest_of burst) burst.slots order
-      (ready-begins k t s c old heard ticks ready)
-      (mark-other k t s c old now past beside)
-      (end-own k t s c old now heard ticks burst ready ended ∙ sym (own-mark s c old))
-      ∙ ap (λ (v : Standing). after_order v (settles (end_of burst) burst.slots (rest_of burst)) (done_in k t loads (length past) now.may v (settles (end_of burst) burst.slots (rest_of burst)))) (same-mark s c)
-      ∙ ap (after_promise s (end_of burst)) kept,
-      ap (λ (v : Standing). taken_by k t loads (length past) now.may v (order_now k t (now ∷ past) v)) before
-      ∙ ap (taken_by k t loads (length past) now.may u) order
-      ∙ ap (λ (o : Obeyed). o.taken) kept)
+      ∙ ap (λ d. kept_by k t memory_then c d burst.slots (rest_of burst)) duty in (
+        ap (after_tick k t loads now past) before
+            ∙ tick-settles k t loads u c now past (end_of burst) (rest_of burst) burst.slots order
+            (ready-begins k t s c old heard ticks ready)
+            (mark-other k t s c old now past beside)
+            (end-own k t s c old now heard ticks burst ready ended ∙ sym (own-mark s c old))
+            ∙ ap (λ (v : Standing). after_order v h (done_in k t loads (length past) now.may v h)) (same-mark s c)
+            ∙ ap (after_promise s (end_of burst)) kept,
+        ap (λ (v : Standing). taken_by k t loads (length past) now.may v (order_now k t (now ∷ past) v)) before
+            ∙ ap (taken_by k t loads (length past) now.may u) order
+            ∙ ap (λ (o : Obeyed). o.taken) kept,
+      )
 
   pub passed : HearsBurst k t (standing k t loads memory heard) c heard ticks → k < 40 → last_order t.address burst.slots ≡ None →
       is_promise (standing k t loads memory heard).duty ≡ false →
@@ -221,35 +226,13 @@ module _ (k : ℕ) (t : TerminalData) (loads : List TimedLoad) (memory : Memory)
       let out : running_out k t (now ∷ past) u ≡ None = rw none refl in
       let order = orders-none k t u c (now ∷ past)
       (end-order k t s c old now heard ticks burst ready ended ∙ by-nothing u last promised)
-      (order-other k t s c old now past (λ promise. (ready.promise promise).0) beside) out in
-      (ap (after_tick k t loads now past) before
-      ∙ tick-marks k t loads u c now past old order
-      (ready-begins k t s c old heard ticks ready)
-      (mark-other k t s c old now past beside)
-      (end-own k t s c old now heard ticks burst ready ended)
-      ∙ marked-twice s c old old ∙ same-mark s c,
-      ap (λ (v : Standing). taken_by k t loads (length past) now.may v (order_now k t (now ∷ past) v)) before
-      ∙ ap (taken_by k t loads (length past) now.may u) order)
-
--- ---- while the burst runs
-
-not-owed : (k : ℕ) (t : TerminalData) (past : List Sample) (s : Standing) (duty : Duty) → is_owed duty ≡ false → drive_duty k t past s duty ≡ Silent
-not-owed k t past s free none = refl
-not-owed k t past s (promises command transmitter) none = refl
-not-owed k t past s (owes words acceptance) none = absurd (true≢false none)
-
-pub running-marks : (k : ℕ) (t : TerminalData) (loads : List TimedLoad) (memory : Memory) (c : Channel) (heard ticks : List Moment) → k < 40 →
-    IsReady k t (standing k t loads memory heard) c heard → HearsBurst k t (standing k t loads memory heard) c heard ticks →
-    (mark : Option ℕ) × (standing k t loads memory (ticks ++ heard) ≡ with_addressed (standing k t loads memory heard) c mark)
-running-marks k t loads memory c heard ticks small ready hears =
-    let m = marking k t loads memory c heard ticks small ready hears in
-    (option_or m.mark (mark_on (standing k t loads memory heard).addressed c), m.stands)
-
-pub running-silent : (k : ℕ) (t : TerminalData) (loads : List TimedLoad) (memory : Memory) (c : Channel) (heard ticks : List Moment) → k < 40 →
-    IsReady k t (standing k t loads memory heard) c heard → HearsBurst k t (standing k t loads memory heard) c heard ticks →
-    is_owed (standing k t loads memory heard).duty ≡ false → drives k t loads record { memory = memory; ticks = ticks ++ heard } ≡ Silent
-running-silent k t loads memory c heard ticks small ready hears none =
-    let s = standing k t loads memory heard in
-    let m = running-marks k t loads memory c heard ticks small ready hears in
-    ap (λ (u : Standing). drive_duty k t (heard_on u.channel (ticks ++ heard)) u u.duty) m.1
-    ∙ not-owed k t (heard_on s.channel (ticks ++ heard)) (with_addressed s c m.0) s.duty none
+      (order-other k t s c old now past (λ promise. (ready.promise promise).0) beside) out in (
+        ap (after_tick k t loads now past) before
+            ∙ tick-marks k t loads u c now past old order
+            (ready-begins k t s c old heard ticks ready)
+            (mark-other k t s c old now past beside)
+            (end-own k t s c old now heard ticks burst ready ended)
+            ∙ marked-twice s c old old ∙ same-mark s c,
+        ap (λ (v : Standing). taken_by k t loads (length past) now.may v (order_now k t (now ∷ past) v)) before
+            ∙ ap (taken_by k t loads (length past) now.may u) order,
+      )

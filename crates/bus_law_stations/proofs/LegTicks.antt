@@ -1,15 +1,15 @@
 -- One channel while a burst runs on it: nothing ends but slots, and they are those of the burst.
-use Rattle.std.proofs.Common.{◌≡◌, ℕ, suc, ◌+◌, ◌<◌, ◌≤◌, Bool, true, false, List, [], ◌∷◌, ◌++◌, length, Option, Some, None, inl, inr, refl, sym, ap, ◌∙◌, arith, length-append}
+use Rattle.std.proofs.Common.{◌≡◌, ℕ, suc, ◌+◌, ◌≤◌, Bool, true, false, List, [], ◌∷◌, ◌++◌, length, Option, Some, None, inl, inr, refl, sym, ap, ◌∙◌, arith, length-append}
 use Rattle.std.proofs.lemmas.Bool.Decides.{nat_tests}
 use Rattle.std.specs.Prelude.{◌||◌, ◌&&◌, ◌==◌, nat_lt, is_some, is_none}
 use Rattle.std.specs.Option.{option_or}
-use Rattle.bus_base.specs.Samples.{is_quiet, sample_on}
+use Rattle.bus_base.specs.Samples.{sample_on}
 use Rattle.bus_base.specs.declared.samples.Channel.{Channel}
 use Rattle.bus_base.specs.declared.samples.Sample.{Sample}
 use Rattle.bus_words.specs.declared.word.Word.{Word}
 use Rattle.bus_line.specs.declared.cutter.Cut.{Cut}
 use Rattle.bus_line.specs.declared.cutter.Cut.TheVariants as cuts
-use Rattle.bus_line.specs.Past.{Burst, InLeg, quiet, stopped, runs, first_tick, ended_now, slot_now, end_since}
+use Rattle.bus_line.specs.Past.{Burst, InLeg, quiet, stopped, runs, ended_now, slot_now, end_since}
 use Rattle.bus_line.specs.Bursts.{IsHeardAt}
 use Rattle.bus_line.specs.Cutting.{cut_now, running_slots, Tells, Collects}
 use Rattle.bus_line.proofs.TickLaws.{at-now, at-more, heard-sample}
@@ -98,7 +98,8 @@ order-of-cut own k x past (cuts.Ended slots rest) old new tells over none = (let
 pub addressed-more : (own k : ℕ) (x : Sample) (past : List Sample) → k ≤ 39 → ended_now k (x ∷ past) ≡ None →
     is_some (last_order own (running_slots k (x ∷ past))) ≡ (is_addressed own (slot_now k (x ∷ past)) || is_some (last_order own (running_slots k past)))
 addressed-more own k x past small none =
-    order-of-cut own k x past (cut_now k (x ∷ past)) (running_slots k past) (running_slots k (x ∷ past)) (cut-tells k (x ∷ past)) (cut-collects k x past small) none
+    order-of-cut own k x past (cut_now k (x ∷ past)) (running_slots k past) (running_slots k (x ∷ past))
+    (cut-tells k (x ∷ past)) (cut-collects k x past small) none
 
 -- ---- at its end
 

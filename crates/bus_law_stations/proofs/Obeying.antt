@@ -1,19 +1,22 @@
 -- What a terminal does of a burst.
-use Rattle.std.proofs.Common.{◌≡◌, inl, inr, ℕ, suc, ◌+◌, ◌<◌, ◌≤◌, Bool, true, false, List, [], ◌∷◌, ◌++◌, length, Option, Some, None, refl, sym, ap, ◌∙◌, arith, length-append}
+use Rattle.std.proofs.Common.{◌≡◌, ℕ, suc, ◌+◌, ◌<◌, ◌≤◌, Bool, true, false, List, [], ◌∷◌, ◌++◌, length, Option, Some, None, refl, sym, ap, ◌∙◌, arith, length-append}
 use Rattle.std.specs.Prelude.{if◌then◌else◌, is_some, ◌||◌}
 use Rattle.std.specs.Option.{option_or}
-use Rattle.bus_base.specs.Samples.{sample_on, other_of}
+use Rattle.bus_base.specs.Samples.{sample_on}
 use Rattle.bus_base.specs.declared.samples.Channel.{Channel}
-use Rattle.bus_line.specs.Past.{Burst, ended_now, slot_now}
+use Rattle.bus_base.specs.declared.samples.Sample.{Sample}
+use Rattle.bus_base.specs.declared.samples.Drive.TheVariants.{Silent}
+use Rattle.std.proofs.lemmas.Bool.{true≢false}
+use Rattle.bus_line.specs.Past.{ended_now, slot_now}
 use Rattle.bus_line.specs.Cutting.{running_slots}
 use Rattle.bus_line.proofs.CollectLaws.{running-off}
 use Rattle.bus_formats.specs.Plans.{TerminalData}
 use Rattle.bus_model.specs.Memory.{Memory, TimedLoad}
-use Rattle.bus_model.specs.Orders.{last_order}
+use Rattle.bus_model.specs.Orders.{Duty, free, owes, promises, last_order}
 use Rattle.bus_model.specs.Hearing.{Moment, heard_on, is_addressed}
-use Rattle.bus_model.specs.Standing.{Standing, mark_on}
-use Rattle.bus_model.specs.Terminal.{order_of, after_tick, standing}
-use Rattle.bus_law_stations.specs.Legs.{with_addressed, IsUnheeded, AreUnheeded, HearsBurst, IsReady}
+use Rattle.bus_model.specs.Standing.{Standing, mark_on, is_owed}
+use Rattle.bus_model.specs.Terminal.{drive_duty, order_of, after_tick, standing, drives}
+use Rattle.bus_law_stations.specs.Legs.{with_addressed, HearsBurst, IsReady}
 use Rattle.bus_law_stations.proofs.LegTicks.{heard-append, leg-ends-not, addressed-more}
 use Rattle.bus_law_stations.proofs.Ready.{same-mark, marked-twice, orders-none, tick-marks, order-other, mark-other, mark-own, ready-heeded, order-heeded, ready-begins, ready-running}
 
@@ -91,3 +94,26 @@ marking k t loads memory c heard (now ∷ ticks) small ready hears =
           ∙ sym (addressed-more t.address k (sample_on now.shown c) (heard_on c past) (omega (arith, small)) none);
       within = either-within b (length heard) (length past) before.mark (long ticks heard) before.within;
     }
+
+-- ---- while the burst runs
+
+not-owed : (k : ℕ) (t : TerminalData) (past : List Sample) (s : Standing) (duty : Duty) → is_owed duty ≡ false → drive_duty k t past s duty ≡ Silent
+not-owed k t past s free none = refl
+not-owed k t past s (promises command transmitter) none = refl
+not-owed k t past s (owes words acceptance) none = absurd (true≢false none)
+
+pub running-marks : (k : ℕ) (t : TerminalData) (loads : List TimedLoad) (memory : Memory) (c : Channel) (heard ticks : List Moment) → k < 40 →
+    IsReady k t (standing k t loads memory heard) c heard → HearsBurst k t (standing k t loads memory heard) c heard ticks →
+    (mark : Option ℕ) × (standing k t loads memory (ticks ++ heard) ≡ with_addressed (standing k t loads memory heard) c mark)
+running-marks k t loads memory c heard ticks small ready hears =
+    let m = marking k t loads memory c heard ticks small ready hears in
+    (option_or m.mark (mark_on (standing k t loads memory heard).addressed c), m.stands)
+
+pub running-silent : (k : ℕ) (t : TerminalData) (loads : List TimedLoad) (memory : Memory) (c : Channel) (heard ticks : List Moment) → k < 40 →
+    IsReady k t (standing k t loads memory heard) c heard → HearsBurst k t (standing k t loads memory heard) c heard ticks →
+    is_owed (standing k t loads memory heard).duty ≡ false → drives k t loads record { memory = memory; ticks = ticks ++ heard } ≡ Silent
+running-silent k t loads memory c heard ticks small ready hears none =
+    let s = standing k t loads memory heard in
+    let m = running-marks k t loads memory c heard ticks small ready hears in
+    ap (λ (u : Standing). drive_duty k t (heard_on u.channel (ticks ++ heard)) u u.duty) m.1
+    ∙ not-owed k t (heard_on s.channel (ticks ++ heard)) (with_addressed s c m.0) s.duty none

@@ -1,8 +1,7 @@
 -- A terminal that is ready for a burst, in each tick of it.
-use Rattle.std.proofs.Common.{◌≡◌, ◌⊎◌, inl, inr, ℕ, suc, ◌+◌, ◌<◌, ◌≤◌, Bool, true, false, not, List, [], ◌∷◌, ◌++◌, length, Option, Some, None, refl, sym, ap, ◌∙◌, arith, length-append}
+use Rattle.std.proofs.Common.{◌≡◌, ◌⊎◌, inl, inr, ℕ, suc, ◌+◌, Bool, true, false, not, List, ◌∷◌, ◌++◌, length, Option, Some, None, refl, ap, ◌∙◌, arith, length-append}
 use Rattle.std.proofs.lemmas.Bool.{cases_Bool, and_left, and_right, ne_eqb}
 use Rattle.std.specs.Prelude.{◌&&◌, ◌==◌, if◌then◌else◌}
-use Rattle.std.specs.Option.{option_or}
 use Rattle.bus_base.specs.Samples.{other_of, same_channel, sample_on}
 use Rattle.bus_base.specs.declared.samples.Channel.{Channel}
 use Rattle.bus_base.specs.declared.samples.Channel.TheVariants.{A, B}
@@ -16,8 +15,8 @@ use Rattle.bus_model.specs.Orders.{Order, last_order, due_after}
 use Rattle.bus_model.specs.Hearing.{Moment, heard_on, is_addressed}
 use Rattle.bus_model.specs.Standing.{Standing, mark_on, Handled, obeys, settles, superseded, ignored_from, is_owed, is_promise, promised_on}
 use Rattle.bus_model.specs.Terminal.{given_up, order_by, order_of, order_on, running_out, order_now, begins, addressed_on, marked_by, ordered, after_tick, after_order, done_in}
-use Rattle.bus_law_stations.specs.Legs.{set_mark, with_addressed, IsUnheeded, IsReady}
-use Rattle.bus_law_stations.proofs.Resting.{heard-long, cases-option}
+use Rattle.bus_law_stations.specs.Legs.{with_addressed, IsUnheeded, IsReady}
+use Rattle.bus_law_stations.proofs.Resting.{heard-long}
 use Rattle.bus_law_stations.proofs.LegTicks.{heard-append, leg-heard, heeded-later}
 
 -- ---- marks
@@ -71,7 +70,8 @@ marked-same k t s u A now past fresh other own = rw (fresh, own, other) refl
 marked-same k t s u B now past fresh other own = rw (fresh, own, other) refl
 
 -- a command is obeyed
-pub tick-obeys : (k : ℕ) (t : TerminalData) (loads : List TimedLoad) (s : Standing) (c : Channel) (now : Moment) (past : List Moment) (e rest : ℕ) (order : Order) →
+pub tick-obeys : (k : ℕ) (t : TerminalData) (loads : List TimedLoad) (s : Standing) (c : Channel) (now : Moment) (past : List Moment)
+    (e rest : ℕ) (order : Order) →
     order_now k t (now ∷ past) s ≡ Some (obeys c e order rest) → begins k t past s ≡ false →
     addressed_on k t (now ∷ past) s (other_of c) ≡ mark_on s.addressed (other_of c) → addressed_on k t (now ∷ past) s c ≡ mark_on s.addressed c →
     after_tick k t loads now past s ≡ after_order s (obeys c e order rest) (done_in k t loads (length past) now.may s (obeys c e order rest))
@@ -121,7 +121,8 @@ order-unheeded k t s c now past promised (inr none) =
     (burst-unheeded k t s c (ended_now k (heard_on c (now ∷ past))) promised none.1)
 
 pub order-other : (k : ℕ) (t : TerminalData) (s : Standing) (c : Channel) (m : Option ℕ) (now : Moment) (past : List Moment) →
-    (is_promise s.duty ≡ true → s.channel ≡ c) → IsUnheeded k t s (other_of c) (now ∷ past) → order_on k t (now ∷ past) (with_addressed s c m) (other_of c) ≡ None
+    (is_promise s.duty ≡ true → s.channel ≡ c) → IsUnheeded k t s (other_of c) (now ∷ past) →
+    order_on k t (now ∷ past) (with_addressed s c m) (other_of c) ≡ None
 order-other k t s c m now past on none = order-unheeded k t (with_addressed s c m) (other_of c) now past (promised-other k s c m on) none
 
 pub mark-kept : (b i : Bool) (tick : ℕ) (mark : Option ℕ) → (i ≡ true) ⊎ (b ≡ false) → (if b && not i then Some tick else mark) ≡ mark

@@ -1,7 +1,7 @@
 -- A terminal that answers: it goes on sending, and ignores what it sends.
-use Rattle.std.proofs.Common.{◌≡◌, ◌⊎◌, inl, inr, ℕ, suc, ◌+◌, ◌-◌, ◌<◌, ◌≤◌, Bool, true, false, not, List, [], ◌∷◌, ◌++◌, length, Option, Some, None, refl, sym, ap, ◌∙◌, arith}
+use Rattle.std.proofs.Common.{◌≡◌, inl, inr, ℕ, ◌+◌, ◌-◌, ◌≤◌, Bool, true, false, not, List, [], ◌∷◌, ◌++◌, length, Option, Some, None, refl, sym, ap, ◌∙◌, arith}
 use Rattle.std.proofs.lemmas.Bool.{and_from, or_from, or_parts, or_right, eq-eqb, ne_eqb, le-ltb, true≢false, false_from_ne_true}
-use Rattle.std.specs.Prelude.{◌&&◌, ◌||◌, ◌==◌, nat_lt, if◌then◌else◌, is_some, is_none}
+use Rattle.std.specs.Prelude.{◌||◌, ◌==◌, nat_lt, is_some, is_none}
 use Rattle.bus_base.specs.Samples.{is_quiet, sample_on, other_of, same_channel}
 use Rattle.bus_base.specs.declared.samples.Channel.{Channel}
 use Rattle.bus_base.specs.declared.samples.Channel.TheVariants.{A, B}
@@ -74,10 +74,12 @@ first-tick k t loads s c now heard answer hears =
     let ended : ended_now k (heard_on c (now ∷ heard)) ≡ None = leg-ends-not k (sample_on now.shown c) [] (heard_on c heard) hears.leg in
     let slot : slot_now k (heard_on c (now ∷ heard)) ≡ None = first-slot k (sample_on now.shown c) (heard_on c heard) hears.rests in
     let own : order_on k t (now ∷ heard) s c ≡ None =
-    either-none (ignored_from k (heard_on c heard) (mark_on s.sent c)) (order_of k t s c (ended_now k (heard_on c (now ∷ heard)))) (ap (order_of k t s c) ended) in
+    either-none (ignored_from k (heard_on c heard) (mark_on s.sent c)) (order_of k t s c (ended_now k (heard_on c (now ∷ heard))))
+    (ap (order_of k t s c) ended) in
     tick-begins k t loads s c now heard
     (orders-none k t s c (now ∷ heard) own
-    (order-unheeded k t s (other_of c) now heard (three-first (is_promise s.duty) (same_channel s.channel (other_of c)) (not (superseded k s)) none) hears.beside.0)
+    (order-unheeded k t s (other_of c) now heard
+    (three-first (is_promise s.duty) (same_channel s.channel (other_of c)) (not (superseded k s)) none) hears.beside.0)
     (no-running k t s (now ∷ heard) none))
     (and_from _ _ (and_from _ _ answer.owes (eq-eqb (length heard) (due_after t s.end) (sym answer.due)))
     (ap not (ap (λ x. given_up k t (heard_on x heard) s) answer.channel ∙ answer.kept)))
@@ -169,7 +171,8 @@ module _ (k : ℕ) (t : TerminalData) (s : Standing) (c : Channel) (heard ticks 
       let past = heard_on c (ticks ++ heard) in
       let long : length (heard_on c (ticks ++ heard)) ≡ length ticks + length heard = heard-long c (ticks ++ heard) ∙ moments-append ticks heard in
       let at : length (heard_on c (ticks ++ heard)) - due_after t s.end ≡ length ticks = omega (arith, long, answer.due) in
-      let started : nat_lt (length (heard_on c (ticks ++ heard))) (due_after t s.end) ≡ false = le-ltb (length past) (due_after t s.end) (omega (arith, long, answer.due)) in
+      let started : nat_lt (length (heard_on c (ticks ++ heard))) (due_after t s.end) ≡ false =
+      le-ltb (length past) (due_after t s.end) (omega (arith, long, answer.due)) in
       let test : (nat_lt (length (heard_on c (ticks ++ heard))) (due_after t s.end) || given_up k t (heard_on c (ticks ++ heard)) (with_sent s c m)
       || is_over k t (heard_on c (ticks ++ heard)) (with_sent s c m)) ≡ false = or_from _ _ (or_from _ _ started still-kept) still-runs in
       ap (λ x. drive_duty k t (heard_on x (ticks ++ heard)) (with_sent s c m) s.duty) answer.channel

@@ -1,32 +1,23 @@
 -- A controller of which nothing is due, over quiet ticks.
 use Rattle.std.proofs.Common.{◌≡◌, ◌⊎◌, inl, inr, ℕ, zero, suc, ◌+◌, ◌-◌, ◌<◌, ◌≤◌, Bool, true, false, nat_lt, List, [], ◌∷◌, ◌++◌, length, Option, Some, None, refl, sym, ap, ◌∙◌, arith}
 use Rattle.std.proofs.lemmas.Bool.{le-ltb, ne_eqb}
-use Rattle.std.proofs.lemmas.Option.{none-some, same_Some}
 use Rattle.std.specs.Prelude.{◌==◌, if◌then◌else◌}
-use Rattle.bus_base.specs.Samples.{sample_on}
-use Rattle.bus_base.specs.declared.samples.Channel.{Channel}
-use Rattle.bus_base.specs.declared.samples.Channel.TheVariants.{A, B}
 use Rattle.bus_base.specs.declared.samples.Pair.{Pair}
-use Rattle.bus_base.specs.declared.samples.Part.TheVariants.{First}
 use Rattle.bus_base.specs.declared.samples.Sample.{Sample}
 use Rattle.bus_base.specs.declared.samples.Sample.TheVariants.{Quiet}
 use Rattle.bus_base.specs.declared.samples.Drive.TheVariants.{Silent}
-use Rattle.bus_line.specs.Past.{Burst, burst_from, end_of, rest_of, quiet_ticks, first_heard, heard_or_now, end_since}
-use Rattle.bus_line.specs.Channels.{on_channel, quiet_both}
+use Rattle.bus_line.specs.Past.{Burst, end_of, first_heard, heard_or_now, end_since}
+use Rattle.bus_line.specs.Channels.{on_channel}
 use Rattle.bus_line.proofs.ChannelLaws.{length-on}
 use Rattle.bus_line.proofs.EndLaws.{end_since-stays, end_since-is}
 use Rattle.bus_line.proofs.HeardLaws.{first_heard-stays}
 use Rattle.bus_line.proofs.SlotLaws.{burst_from-more}
-use Rattle.bus_line.specs.Bursts.{IsEndSince}
-use Rattle.bus_formats.specs.Forms.{answers_of}
 use Rattle.bus_formats.specs.Plans.{StationData}
-use Rattle.bus_formats.specs.Readings.{read_answer}
 use Rattle.bus_formats.specs.Times.{no_response}
-use Rattle.bus_formats.specs.declared.form.Reading.{Reading}
 use Rattle.bus_model.specs.Starts.{Entry, start_of}
-use Rattle.bus_model.specs.Attempts.{Begun, Ended}
-use Rattle.bus_model.specs.Controller.{Reply, silence, awaited, running, whole, reply, reply_from, reply_until, ending_now, ending_after, command_ending, first_ending, first_read, good_ending, second_ending, drive_command}
-use Rattle.bus_model.specs.Course.{Take, Course, course, quiet_from, begin_entry, run_by, runs_next, close_or_run, run_on, take_control, with_takes, drive_by, drive_course}
+use Rattle.bus_model.specs.Attempts.{Begun}
+use Rattle.bus_model.specs.Controller.{silence, awaited, whole, reply, reply_from, reply_until, ending_after, command_ending, first_ending, first_read, good_ending, second_ending, drive_command}
+use Rattle.bus_model.specs.Course.{Take, Course, course, quiet_from, begin_entry, run_by, runs_next, close_or_run, run_on, with_takes, drive_by, drive_course}
 use Rattle.bus_law_stations.specs.Silence.{quiet_pair, quiet_pairs, AwaitsFirst, AwaitsSecond, NothingStarts, AreTaken}
 use Rattle.bus_law_stations.proofs.Resting.{quiet-on, cases-option}
 

@@ -1,5 +1,5 @@
 -- A station of which nothing is due, over quiet ticks.
-use Rattle.std.proofs.Common.{◌≡◌, inl, inr, ℕ, zero, suc, ◌+◌, ◌<◌, ◌≤◌, Bool, true, false, List, [], ◌∷◌, ◌++◌, length, Option, Some, None, refl, sym, ap, ◌∙◌, subst, arith}
+use Rattle.std.proofs.Common.{◌≡◌, ℕ, zero, suc, ◌+◌, ◌≤◌, Bool, true, false, List, [], ◌∷◌, ◌++◌, length, Option, Some, None, refl, sym, ap, ◌∙◌, arith}
 use Rattle.std.specs.Prelude.{if◌then◌else◌}
 use Rattle.bus_base.specs.declared.samples.Pair.{Pair}
 use Rattle.bus_base.specs.declared.samples.Drive.TheVariants.{Silent}
@@ -8,11 +8,11 @@ use Rattle.bus_model.specs.Memory.{TimedLoad}
 use Rattle.bus_model.specs.Starts.{has_items}
 use Rattle.bus_model.specs.Hearing.{Moment, Hearing}
 use Rattle.bus_model.specs.Terminal.{standing_after, drives, accepted_now}
-use Rattle.bus_model.specs.Course.{Take, Course, course, drive_course}
+use Rattle.bus_model.specs.Course.{Take, Course, drive_course}
 use Rattle.bus_model.specs.Control.{OutsideTake, StationSoFar, unheard, moment_of, hear_more, accepted_take, yielded_in, is_outside, outside_takes, takes_in, taken_over, serve, hold, course_with, so_far, so_far_after, course_after, hearing_after, drives_next}
-use Rattle.bus_law_stations.specs.Silence.{quiet_pair, quiet_pairs, quiet_moments, NothingDue, NothingStarts, AreTaken, StationRests, heard_more}
+use Rattle.bus_law_stations.specs.Silence.{quiet_pair, quiet_pairs, NothingDue, AreTaken, StationRests, heard_more}
 use Rattle.bus_law_stations.proofs.StillTerminal.{quiet_moment, due-later, still-stands, still-silent, still-accepts}
-use Rattle.bus_law_stations.proofs.StillController.{pairs-long, starts-later, still-course, still-drive, fewer}
+use Rattle.bus_law_stations.proofs.StillController.{pairs-long, still-course, still-drive, fewer}
 
 -- ---- control is taken in ticks that were heard
 
@@ -76,23 +76,29 @@ module _ (k : ℕ) (station : StationData) (starts : Bool) (loads : List TimedLo
   takes-none tick hearing accepted serves = rw (accepted, serves) refl
 
   -- a station that heard these quiet ticks hears one more
-  one-more : (past : List Pair) (before : StationSoFar) (mays : List Bool) (b : Bool) → (course_with k station starts loads outside before.takes past).holds ≡ b →
+  one-more : (past : List Pair) (before : StationSoFar) (mays : List Bool) (b : Bool) →
+      (course_with k station starts loads outside before.takes past).holds ≡ b →
       NothingDue k station.terminal (standing_after k station.terminal loads before.hearing) before.hearing.ticks (suc (length mays)) →
       outside_takes k station starts loads outside (length past) outside ≡ [] →
-      (may : Bool) × ((if b then hold k station starts loads outside quiet_pair past (heard_more before mays) (course_with k station starts loads outside before.takes (quiet_pair ∷ past))
+      (may : Bool)
+      × ((if b then hold k station starts loads outside quiet_pair past (heard_more before mays)
+      (course_with k station starts loads outside before.takes (quiet_pair ∷ past))
       else serve k station starts loads outside quiet_pair past (heard_more before mays) (course_with k station starts loads outside before.takes past))
       ≡ heard_more before (may ∷ mays))
   one-more past before mays true holds due serves =
-      let c = course_with k station starts loads outside before.takes (quiet_pair ∷ past) in
-      (if yielded_in (length past) c.ended then has_items c.left else false,
-      ap (λ (moment : Moment). record (heard_more before mays) { hearing = hear_more (heard_more before mays).hearing moment })
-      (either-moment (yielded_in (length past) c.ended) (has_items c.left)))
+      let c = course_with k station starts loads outside before.takes (quiet_pair ∷ past) in (
+        if yielded_in (length past) c.ended then has_items c.left else false,
+        ap (λ (moment : Moment). record (heard_more before mays) { hearing = hear_more (heard_more before mays).hearing moment })
+            (either-moment (yielded_in (length past) c.ended) (has_items c.left)),
+      )
   one-more past before mays false holds due serves =
       let c = course_with k station starts loads outside before.takes past in
-      let hearing = hear_more (heard_more before mays).hearing (quiet_moment (has_items c.left)) in
-      (has_items c.left,
-      ap (taken_over k station starts loads outside (quiet_pair ∷ past) (heard_more before mays) hearing)
-      (takes-none (length past) hearing (still-accepts k station.terminal loads before.hearing.memory before.hearing.ticks (has_items c.left) mays due) serves))
+      let hearing = hear_more (heard_more before mays).hearing (quiet_moment (has_items c.left)) in (
+        has_items c.left,
+        ap (taken_over k station starts loads outside (quiet_pair ∷ past) (heard_more before mays) hearing)
+            (takes-none (length past) hearing
+            (still-accepts k station.terminal loads before.hearing.memory before.hearing.ticks (has_items c.left) mays due) serves),
+      )
 
   less : (past : List Pair) (n : ℕ) → StationRests k station starts loads outside past (suc n) → StationRests k station starts loads outside past n
   less past n h = record {
@@ -105,7 +111,8 @@ module _ (k : ℕ) (station : StationData) (starts : Bool) (loads : List TimedLo
   -- ---- many ticks
 
   same-course : (past : List Pair) (n : ℕ) → StationRests k station starts loads outside past n →
-      course_with k station starts loads outside (so_far k station starts loads outside past).takes (quiet_pairs n ++ past) ≡ course_after k station starts loads outside past
+      course_with k station starts loads outside (so_far k station starts loads outside past).takes (quiet_pairs n ++ past)
+      ≡ course_after k station starts loads outside past
   same-course past n h =
       still-course k station starts (so_far k station starts loads outside past).takes past n (always-taken past) h.controller
 
@@ -122,9 +129,11 @@ module _ (k : ℕ) (station : StationData) (starts : Bool) (loads : List TimedLo
       let due = h.terminal in
       let enough : suc n ≡ suc (length so.0) = omega (arith, so.1) in
       let more = one-more later before so.0 (course_with k station starts loads outside before.takes later).holds refl (rw enough at due)
-      (h.serves (length later) (omega (arith, long)) (omega (arith, long))) in
-      (more.0 ∷ so.0, omega (arith, so.1),
-      ap (so_far_after k station starts loads outside quiet_pair later) so.2 ∙ more.1)
+      (h.serves (length later) (omega (arith, long)) (omega (arith, long))) in (
+        more.0 ∷ so.0,
+        omega (arith, so.1),
+        ap (so_far_after k station starts loads outside quiet_pair later) so.2 ∙ more.1,
+      )
 
   pub still-after : (past : List Pair) (n : ℕ) → StationRests k station starts loads outside past n →
       course_after k station starts loads outside (quiet_pairs n ++ past) ≡ course_after k station starts loads outside past
@@ -144,7 +153,8 @@ module _ (k : ℕ) (station : StationData) (starts : Bool) (loads : List TimedLo
       ap (λ (before : StationSoFar). standing_after k station.terminal loads before.hearing) so.2
       ∙ still-stands k station.terminal loads hearing.memory hearing.ticks so.0 (rw enough at due)
 
-  either-silent : (b : Bool) (past : List Pair) (c : Course) (hearing : Hearing) → drive_course k past c ≡ Silent → drives k station.terminal loads hearing ≡ Silent →
+  either-silent : (b : Bool) (past : List Pair) (c : Course) (hearing : Hearing) → drive_course k past c ≡ Silent →
+      drives k station.terminal loads hearing ≡ Silent →
       (if b then drive_course k past c else drives k station.terminal loads hearing) ≡ Silent
   either-silent true past c hearing first second = first
   either-silent false past c hearing first second = second

@@ -1,22 +1,20 @@
 -- A terminal of which nothing is due, over quiet ticks.
-use Rattle.std.proofs.Common.{◌≡◌, ◌⊎◌, inl, inr, ℕ, zero, suc, ◌+◌, ◌<◌, ◌≤◌, Bool, true, false, not, List, [], ◌∷◌, ◌++◌, length, Option, Some, None, refl, sym, ap, ◌∙◌, arith}
-use Rattle.std.proofs.lemmas.Bool.{cases_Bool, or_left, or_right, lt-ltb}
+use Rattle.std.proofs.Common.{◌≡◌, ◌⊎◌, inl, inr, ℕ, suc, ◌+◌, ◌<◌, ◌≤◌, Bool, true, false, not, List, [], ◌∷◌, ◌++◌, length, Option, None, refl, ap, ◌∙◌, arith}
+use Rattle.std.proofs.lemmas.Bool.{or_left, or_right, lt-ltb}
 use Rattle.std.proofs.lemmas.Bool.Decides.{nat_tests}
 use Rattle.std.specs.Prelude.{◌&&◌, ◌||◌, ◌==◌, nat_lt, if◌then◌else◌}
-use Rattle.std.specs.Option.{option_or}
-use Rattle.bus_base.specs.Samples.{sample_on, same_channel}
+use Rattle.bus_base.specs.Samples.{sample_on}
 use Rattle.bus_base.specs.declared.samples.Channel.{Channel}
 use Rattle.bus_base.specs.declared.samples.Channel.TheVariants.{A, B}
 use Rattle.bus_base.specs.declared.samples.Sample.{Sample}
-use Rattle.bus_base.specs.declared.samples.Sample.TheVariants.{Quiet}
 use Rattle.bus_base.specs.declared.samples.Drive.TheVariants.{Silent}
-use Rattle.bus_line.specs.Past.{runs, ended_now, heard_within, end_since}
+use Rattle.bus_line.specs.Past.{runs, ended_now, heard_within}
 use Rattle.bus_formats.specs.Plans.{TerminalData}
 use Rattle.bus_model.specs.Waits.{relay_wait}
 use Rattle.bus_model.specs.Memory.{Memory, TimedLoad}
 use Rattle.bus_model.specs.Orders.{Duty, free, owes, promises, due_after}
 use Rattle.bus_model.specs.Hearing.{Moment, heard_on}
-use Rattle.bus_model.specs.Standing.{Standing, Handled, runs_out, superseded, ignored_from, mark_on, is_owed, promised_on}
+use Rattle.bus_model.specs.Standing.{Standing, Handled, superseded, ignored_from, mark_on, is_owed, promised_on}
 use Rattle.bus_model.specs.Terminal.{given_up, is_over, drive_duty, heard_status, order_of, order_on, running_out, order_now, begins, marked_by, ordered, after_tick, standing, drives, taken_by, took_now, accepted_by, accepted_now}
 use Rattle.bus_law_stations.specs.Silence.{quiet_pair, quiet_moments, NothingDue}
 use Rattle.bus_law_stations.proofs.Resting.{quiet-on, heard-quiet, heard-long, moments-long, rests-quiet, ended-quiet, within-quiet, over-quiet, over-late}
@@ -149,7 +147,8 @@ silent-by k t s heard (owes words acceptance) e due =
     let owed : is_owed s.duty ≡ true = rw e refl in
     let long : length (heard_on s.channel heard) ≡ length heard = heard-long s.channel heard in
     let early = nat_lt (length (heard_on s.channel heard)) (due_after t s.end) in
-    let test : (nat_lt (length (heard_on s.channel heard)) (due_after t s.end) || given_up k t (heard_on s.channel heard) s || is_over k t (heard_on s.channel heard) s) ≡ true =
+    let test : (nat_lt (length (heard_on s.channel heard)) (due_after t s.end) || given_up k t (heard_on s.channel heard) s
+    || is_over k t (heard_on s.channel heard) s) ≡ true =
     elim (due.answer owed) [
       | inl less ↦ or_left _ _ (or_left _ _ (lt-ltb (length (heard_on s.channel heard)) (due_after t s.end) (omega (arith, less, long))))
       | inr gone ↦ elim gone [
@@ -187,8 +186,8 @@ either-nothing : (b : Bool) (o : Option ℕ) → o ≡ None → (if b then None 
 either-nothing true o none = refl
 either-nothing false o none = none
 
-accepted-by : (k : ℕ) (t : TerminalData) (loads : List TimedLoad) (s : Standing) (past : List Sample) (x : Sample) (duty : Duty) → ended_now k (x ∷ past) ≡ None →
-    accepted_by k t loads past x s duty ≡ None
+accepted-by : (k : ℕ) (t : TerminalData) (loads : List TimedLoad) (s : Standing) (past : List Sample) (x : Sample) (duty : Duty) →
+    ended_now k (x ∷ past) ≡ None → accepted_by k t loads past x s duty ≡ None
 accepted-by k t loads s past x free none = refl
 accepted-by k t loads s past x (promises command transmitter) none = refl
 accepted-by k t loads s past x (owes words false) none = refl

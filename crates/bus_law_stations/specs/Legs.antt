@@ -1,13 +1,14 @@
 -- A burst as a terminal hears it on one channel, and the premises under which it alone counts.
-use Rattle.std.specs.Prelude.{◌≡◌, ◌⊎◌, ℕ, ◌+◌, ◌<◌, ◌≤◌, true, false, List, [], ◌∷◌, ◌++◌, length, Option, Some, None}
+use Rattle.std.specs.Prelude.{◌≡◌, ◌⊎◌, ℕ, ◌+◌, ◌<◌, ◌≤◌, Bool, true, false, List, [], ◌∷◌, ◌++◌, length, Option, Some, None}
 use Rattle.bus_base.specs.Samples.{other_of}
 use Rattle.bus_base.specs.declared.samples.Channel.{Channel}
 use Rattle.bus_base.specs.declared.samples.Channel.TheVariants.{A, B}
 use Rattle.bus_base.specs.declared.samples.Part.TheVariants.{First, Second}
-use Rattle.bus_line.specs.Past.{Burst, InLeg, runs, ended_now, slot_now}
+use Rattle.bus_line.specs.Past.{Burst, rest_of, InLeg, runs, ended_now, slot_now}
 use Rattle.bus_formats.specs.Plans.{TerminalData}
 use Rattle.bus_model.specs.Waits.{relay_wait}
-use Rattle.bus_model.specs.Orders.{Obeyed, last_order, due_after}
+use Rattle.bus_model.specs.Memory.{TimedLoad, with_loads}
+use Rattle.bus_model.specs.Orders.{Obeyed, Order, last_order, due_after, obey, keep_promise}
 use Rattle.bus_model.specs.Hearing.{Moment, heard_on, is_addressed}
 use Rattle.bus_model.specs.Standing.{Marks, mark_on, Standing, ignored_from, is_owed, is_promise}
 use Rattle.bus_model.specs.Terminal.{given_up}
@@ -65,6 +66,16 @@ pub record BeginsAnswer (k : ℕ) (terminal : TerminalData) (s : Standing) (c : 
   pub due : due_after terminal s.end ≡ length heard
   -- and which it hasn't given up
   pub kept : given_up k terminal (heard_on c heard) s ≡ false
+
+-- what a terminal, of which s stands, makes in this tick of the last command of a burst; the loads of earlier ticks come before it
+abbrev pub obeyed_in : TerminalData → List TimedLoad → ℕ → Standing → Channel → Order → ℕ → Bool → Obeyed
+obeyed_in terminal loads tick s c order rest may =
+    obey terminal (with_loads terminal.address tick loads s.memory) c order.command order.tail rest may
+
+-- likewise of a burst that settles the promise of this command, to this transmitter
+abbrev pub settled_in : TerminalData → List TimedLoad → ℕ → Standing → Channel → ℕ → ℕ → Burst → Obeyed
+settled_in terminal loads tick s c command transmitter burst =
+    keep_promise terminal (with_loads terminal.address tick loads s.memory) c command transmitter burst.slots (rest_of burst)
 
 -- what a command's burst with this end on a channel leaves, whose last slot for the terminal ended in this tick
 abbrev pub after_command : Standing → Channel → ℕ → ℕ → Obeyed → Standing

@@ -7,13 +7,13 @@ ghost use Rattle.bus_base.specs.declared.samples.Drive.TheVariants.{Silent};
 ghost use Rattle.bus_words.specs.declared.word.Word.{Word};
 ghost use Rattle.bus_line.specs.Past.{Burst, end_of, rest_of, ended_now};
 ghost use Rattle.bus_formats.specs.Plans.{TerminalData};
-ghost use Rattle.bus_model.specs.Memory.{Memory, TimedLoad, with_loads};
-ghost use Rattle.bus_model.specs.Orders.{Obeyed, Order, last_order, owes, promises, obey, keep_promise};
+ghost use Rattle.bus_model.specs.Memory.{Memory, TimedLoad};
+ghost use Rattle.bus_model.specs.Orders.{Obeyed, Order, last_order, owes, promises};
 ghost use Rattle.bus_model.specs.Hearing.{Moment, heard_on};
 ghost use Rattle.bus_model.specs.Sending.{drive_sample};
 ghost use Rattle.bus_model.specs.Standing.{is_owed, is_promise, superseded};
 ghost use Rattle.bus_model.specs.Terminal.{standing, drives, took_now};
-ghost use Rattle.bus_law_stations.specs.Legs.{IsUnheeded, HearsBurst, IsReady, BeginsAnswer, with_addressed, with_sent, after_command, after_promise};
+ghost use Rattle.bus_law_stations.specs.Legs.{IsUnheeded, HearsBurst, IsReady, BeginsAnswer, with_addressed, with_sent, obeyed_in, settled_in, after_command, after_promise};
 
 /// While a burst runs nothing changes of a terminal but that addressed slots are marked, and if it owes no answer it sends nothing.
 pub fn a_running_burst_changes_only_marks()
@@ -32,7 +32,7 @@ pub fn a_running_burst_changes_only_marks()
 pub fn a_burst_is_obeyed_or_taken()
     ensures obeyed { (k : ℕ) (terminal : TerminalData) (loads : List TimedLoad) (memory : Memory) (c : Channel) (heard ticks : List Moment) (now : Moment)
         (burst : Burst) (order : Order) → k < 40 → let s = standing k terminal loads memory heard in
-        let o : Obeyed = obey terminal (with_loads terminal.address (length (ticks ++ heard)) loads s.memory) c order.command order.tail (rest_of burst) now.may in
+        let o : Obeyed = obeyed_in terminal loads (length (ticks ++ heard)) s c order (rest_of burst) now.may in
         IsReady k terminal s c heard → HearsBurst k terminal s c heard ticks → IsUnheeded k terminal s (other_of c) (now ∷ (ticks ++ heard)) →
         ended_now k (heard_on c (now ∷ (ticks ++ heard))) ≡ Some burst → last_order terminal.address burst.slots ≡ Some order →
         ((slot_end : ℕ) × (length heard ≤ slot_end) × (slot_end < length (ticks ++ heard))
@@ -40,7 +40,7 @@ pub fn a_burst_is_obeyed_or_taken()
         × (took_now k terminal loads record { memory = memory; ticks = now ∷ (ticks ++ heard) } ≡ o.taken)) }
     ensures settled { (k : ℕ) (terminal : TerminalData) (loads : List TimedLoad) (memory : Memory) (c : Channel) (heard ticks : List Moment) (now : Moment)
         (burst : Burst) (command transmitter : ℕ) → k < 40 → let s = standing k terminal loads memory heard in
-        let o : Obeyed = keep_promise terminal (with_loads terminal.address (length (ticks ++ heard)) loads s.memory) c command transmitter burst.slots (rest_of burst) in
+        let o : Obeyed = settled_in terminal loads (length (ticks ++ heard)) s c command transmitter burst in
         IsReady k terminal s c heard → HearsBurst k terminal s c heard ticks → IsUnheeded k terminal s (other_of c) (now ∷ (ticks ++ heard)) →
         ended_now k (heard_on c (now ∷ (ticks ++ heard))) ≡ Some burst → last_order terminal.address burst.slots ≡ None →
         s.duty ≡ promises command transmitter → superseded k s ≡ false →

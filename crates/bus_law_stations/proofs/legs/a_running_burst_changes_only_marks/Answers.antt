@@ -1,4 +1,4 @@
-use Rattle.bus_law_stations.proofs.BurstEnds.{running-marks, running-silent}
+use Rattle.bus_law_stations.proofs.Obeying.{running-marks, running-silent}
 use Rattle.bus_law_stations.proofs.legs.a_running_burst_changes_only_marks.Goals as goal
 
 pub returns : goal.returns
