@@ -7,3 +7,4 @@ pub mod Ready
 pub mod Obeying
 pub mod BurstEnds
 pub mod SenderTicks
+pub mod Commanding

@@ -41,28 +41,28 @@ unfolding first_heard
 heard-none past a none =
     either-none (nat_lt (length past) a) (heard_or_now Quiet (length past) (first_heard past a)) (ap (heard_or_now Quiet (length past)) none)
 
-not-whole : (b : Bool) (burst : Burst) → (if b then silence else awaited) ≡ whole burst → ⊥
+pub not-whole : (b : Bool) (burst : Burst) → (if b then silence else awaited) ≡ whole burst → ⊥
 not-whole true burst e = cc
 not-whole false burst e = cc
 
-until-stays : (k : ℕ) (past : List Sample) (a : ℕ) (burst : Burst) (b : Bool) (o p : Option ℕ) →
-    ((x : ℕ) → o ≡ Some x → (p ≡ Some x) × (a + (x - a) ≤ length past)) →
-    (if b then silence else reply_until k past a o) ≡ whole burst → (if b then silence else reply_until k (Quiet ∷ past) a p) ≡ whole burst
-until-stays k past a burst true o p same e = absurd (cc)
-until-stays k past a burst false None p same e = absurd (cc)
-until-stays k past a burst false (Some x) p same e =
-    let at = same x refl in
-    ap (reply_until k (Quiet ∷ past) a) at.0 ∙ ap whole (burst_from-more Quiet past a (x - a) at.1) ∙ e
+until-stays : (k : ℕ) (x : Sample) (past : List Sample) (a : ℕ) (burst : Burst) (b : Bool) (o p : Option ℕ) →
+    ((e : ℕ) → o ≡ Some e → (p ≡ Some e) × (a + (e - a) ≤ length past)) →
+    (if b then silence else reply_until k past a o) ≡ whole burst → (if b then silence else reply_until k (x ∷ past) a p) ≡ whole burst
+until-stays k x past a burst true o p same e = absurd (cc)
+until-stays k x past a burst false None p same e = absurd (cc)
+until-stays k x past a burst false (Some end) p same e =
+    let at = same end refl in
+    ap (reply_until k (x ∷ past) a) at.0 ∙ ap whole (burst_from-more x past a (end - a) at.1) ∙ e
 
 -- a whole answer stays the same
-whole-stays : (k : ℕ) (past : List Sample) (e : ℕ) (burst : Burst) → reply k past e ≡ whole burst → reply k (Quiet ∷ past) e ≡ whole burst
-whole-stays k past e burst is = elim (cases-option (first_heard past e)) [
+pub whole-stays : (k : ℕ) (x : Sample) (past : List Sample) (e : ℕ) (burst : Burst) → reply k past e ≡ whole burst → reply k (x ∷ past) e ≡ whole burst
+whole-stays k x past e burst is = elim (cases-option (first_heard past e)) [
   | inl none ↦ absurd (not-whole (nat_lt (e + no_response) (length past)) burst (sym (ap (reply_from k past e) none) ∙ is))
   | inr found ↦
-      ap (reply_from k (Quiet ∷ past) e) (first_heard-stays Quiet past e found.0 found.1)
-      ∙ until-stays k past found.0 burst (nat_lt (e + no_response) found.0) (end_since k past found.0) (end_since k (Quiet ∷ past) found.0)
-      (λ x at. let end = end_since-is k past found.0 x at in
-      (end_since-stays k Quiet past found.0 x at, omega (arith, end.from, end.known)))
+      ap (reply_from k (x ∷ past) e) (first_heard-stays x past e found.0 found.1)
+      ∙ until-stays k x past found.0 burst (nat_lt (e + no_response) found.0) (end_since k past found.0) (end_since k (x ∷ past) found.0)
+      (λ end at. let is = end_since-is k past found.0 end at in
+      (end_since-stays k x past found.0 end at, omega (arith, is.from, is.known)))
       (sym (ap (reply_from k past e) found.1) ∙ is)
 ]
 
@@ -84,7 +84,7 @@ second-stays k begun past e w = record {
   expects_second = w.expects_second;
   burst = w.burst;
   status = w.status;
-  answered = whole-stays k past w.command_end w.burst w.answered;
+  answered = whole-stays k Quiet past w.command_end w.burst w.answered;
   good = w.good;
   end = w.end;
   silent = heard-none past e w.silent;
@@ -99,7 +99,7 @@ awaits-stays k begun past e (inr w) = inr (second-stays k begun past e w)
 
 -- ---- nothing ends
 
-reply-awaited : (k : ℕ) (past : List Sample) (e : ℕ) → first_heard past e ≡ None → length past ≤ e + no_response → reply k past e ≡ awaited
+pub reply-awaited : (k : ℕ) (past : List Sample) (e : ℕ) → first_heard past e ≡ None → length past ≤ e + no_response → reply k past e ≡ awaited
 reply-awaited k past e silent early =
     let no : nat_lt (e + no_response) (length past) ≡ false = le-ltb (e + no_response) (length past) early in
     ap (reply_from k past e) silent ∙ (rw no refl)
@@ -167,7 +167,7 @@ run-by k c past (Some begun) is h =
     (no-ending k begun (quiet_pair ∷ past) (on_channel begun.state.channel (quiet_pair ∷ past)) w.0 w.1 (omega (arith, w.2, long)))
     ∙ ap (λ o. record c { runs = o }) (sym is)
 
-not-taken : (heard n : ℕ) (takes : List Take) (c : Course) → AreTaken heard takes → heard < n → with_takes takes n c ≡ c
+pub not-taken : (heard n : ℕ) (takes : List Take) (c : Course) → AreTaken heard takes → heard < n → with_takes takes n c ≡ c
 not-taken heard n [] c taken late = refl
 not-taken heard n (take ∷ takes) c taken late =
     let test : (take.heard == n) ≡ false = ne_eqb take.heard n (λ e. omega (arith, e, taken.0, late)) in
@@ -179,7 +179,7 @@ fewer k c past n h = record {
   starts = λ none holds entry later left. let start = h.starts none holds entry later left in omega (arith, start);
 }
 
-known : (k : ℕ) (begun : Begun) (past : List Sample) (e : ℕ) → Awaits k begun past e → (x : ℕ) × (end_since k past begun.start ≡ Some x)
+pub known : (k : ℕ) (begun : Begun) (past : List Sample) (e : ℕ) → Awaits k begun past e → (x : ℕ) × (end_since k past begun.start ≡ Some x)
 known k begun past e (inl w) = (e, w.ended)
 known k begun past e (inr w) = (w.command_end, w.ended)
 

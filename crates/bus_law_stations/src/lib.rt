@@ -3,11 +3,13 @@
 #![tactic(auto)]
 
 pub mod legs;
+pub mod messages;
 pub mod silence;
 
 pub use legs::{
     a_burst_is_obeyed_or_taken, a_running_burst_changes_only_marks, a_sender_ignores_what_it_sends,
 };
+pub use messages::{a_controller_sends_its_command, an_answer_is_read};
 pub use silence::{
     quiet_ticks_change_no_controller, quiet_ticks_change_no_station, quiet_ticks_change_no_terminal,
 };
