@@ -89,7 +89,7 @@ next-begins c past entry begins =
     ∙ ap (begin_entry past c) begins.left
     ∙ (rw test refl)
 
-pairs-append : (ticks past : List Pair) → length (ticks ++ past) ≡ length ticks + length past
+pub pairs-append : (ticks past : List Pair) → length (ticks ++ past) ≡ length ticks + length past
 pairs-append ticks past = length-append ticks past
 
 module _ (k : ℕ) (station : StationData) (starts : Bool) (takes : List Take) (past : List Pair) (entry : Entry)

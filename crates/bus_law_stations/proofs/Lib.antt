@@ -8,3 +8,4 @@ pub mod Obeying
 pub mod BurstEnds
 pub mod SenderTicks
 pub mod Commanding
+pub mod Reading
