@@ -11,7 +11,7 @@ use Rattle.bus_line.proofs.PastLaws.{quiet-pulse}
 use Rattle.bus_line.proofs.TickLaws.{pulse-sample}
 use Rattle.bus_line.proofs.SlotLaws.{reverse-more}
 use Rattle.bus_line.proofs.EndLaws.{end_since-early, end_since-later, end_since-ended, end_since-runs}
-use Rattle.bus_line.proofs.Legs.{runs-leg, first_tick-leg, ended-leg}
+use Rattle.bus_line.proofs.Legs.{quiet-quiet_ticks, length-quiet_ticks, runs-leg, first_tick-leg, ended-leg}
 use Rattle.bus_line.proofs.LegSlots.{slots-leg}
 use Rattle.bus_law_line.specs.Shown.{first_samples}
 
@@ -53,6 +53,21 @@ in-leg k row (suc n) heard =
     let pulse : is_quiet (row n) ≡ false = pulse-sample (row n) (heard n (omega arith)) in
     let none : quiet (row n ∷ first_samples row n) ≡ 0 = quiet-pulse (row n) (first_samples row n) pulse in
     (omega (arith, none), λ e. pulse, in-leg k row n (λ i low. heard i (omega (arith, low))))
+
+-- with up to k quiet ticks after it too
+pub in-leg-quiet : (k : ℕ) (row : ℕ → Sample) (n j : ℕ) → ((i : ℕ) → i < n → row i ≢ Quiet) → 0 < n → j ≤ k → InLeg k (quiet_ticks j ++ first_samples row n)
+in-leg-quiet k row n zero heard some few = in-leg k row n heard
+in-leg-quiet k row zero (suc j) heard some few = absurd (omega (arith, some))
+in-leg-quiet k row (suc n) (suc j) heard some few =
+    let pulse : is_quiet (row n) ≡ false = pulse-sample (row n) (heard n (omega arith)) in
+    let none : quiet (row n ∷ first_samples row n) ≡ 0 = quiet-pulse (row n) (first_samples row n) pulse in
+    let count : quiet (quiet_ticks j ++ first_samples row (suc n)) ≡ j + quiet (first_samples row (suc n)) = quiet-quiet_ticks j (first_samples row (suc n)) in
+    let long : length (quiet_ticks j ++ first_samples row (suc n)) ≡ j + length (first_samples row (suc n)) =
+    length-quiet_ticks j (first_samples row (suc n)) in (
+      omega (arith, none, count, few),
+      λ e. absurd (let bare = ap (λ (xs : List Sample). length xs) e in omega (arith, bare, long)),
+      in-leg-quiet k row (suc n) j heard some (omega (arith, few)),
+    )
 
 -- while it is shown, what began with it has no end
 pub running-row : (k : ℕ) (row : ℕ → Sample) (n : ℕ) (past : List Sample) → runs k past ≡ false → ((i : ℕ) → i < n → row i ≢ Quiet) →

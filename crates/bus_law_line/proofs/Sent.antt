@@ -1,5 +1,5 @@
 -- While one station sends and no other drives its channel.
-use Rattle.std.proofs.Common.{◌≡◌, ◌≢◌, ℕ, zero, suc, ◌+◌, ◌-◌, ◌*◌, ◌/◌, ◌%◌, ◌<◌, Bool, true, false, ◌==◌, List, [], ◌∷◌, ◌++◌, length, Option, Some, None, refl, ap, ◌∙◌, arith, inl, inr, length-append}
+use Rattle.std.proofs.Common.{◌≡◌, ◌≤◌, ◌≢◌, ℕ, zero, suc, ◌+◌, ◌-◌, ◌*◌, ◌/◌, ◌%◌, ◌<◌, Bool, true, false, ◌==◌, List, [], ◌∷◌, ◌++◌, length, Option, Some, None, refl, ap, ◌∙◌, arith, inl, inr, length-append}
 use Rattle.std.proofs.lemmas.Bool.{cases_eq}
 use Rattle.std.specs.Prelude.{find, slice_get, count_by}
 use Rattle.std.specs.List.{list_any}
@@ -9,7 +9,7 @@ use Rattle.bus_base.specs.declared.samples.Part.{Part}
 use Rattle.bus_base.specs.declared.samples.Pair.{Pair}
 use Rattle.bus_base.specs.declared.samples.Sample.{Sample}
 use Rattle.bus_base.specs.declared.samples.Drive.{Drive}
-use Rattle.bus_base.specs.declared.samples.Drive.TheVariants.{On}
+use Rattle.bus_base.specs.declared.samples.Drive.TheVariants.{Silent, On}
 use Rattle.bus_words.specs.declared.word.Word.{Word}
 use Rattle.bus_line.specs.Past.{quiet_ticks}
 use Rattle.bus_line.specs.Channels.{on_channel}
@@ -35,6 +35,15 @@ pub some-word : (words : List Word) (j : ℕ) → j < length words → slice_get
 some-word [] j within none = omega (arith, within)
 some-word (word ∷ words) zero within none = cc
 some-word (word ∷ words) (suc j) within none = some-word words j (omega (arith, within)) none
+
+no-word : (words : List Word) (j : ℕ) → length words ≤ j → slice_get words j ≡ None
+no-word [] j past = refl
+no-word (word ∷ words) zero past = absurd (omega (arith, past))
+no-word (word ∷ words) (suc j) past = no-word words j (omega (arith, past))
+
+-- nothing after its words
+pub drives-nothing : (c : Channel) (part : Part) (words : List Word) (i : ℕ) → 40 * length words ≤ i → drive_sample c part words i ≡ Silent
+drives-nothing c part words i past = ap (drive_word c part (suc i == 40 * length words) (i % 40)) (no-word words (i / 40) (omega (arith, past)))
 
 drives-word : (c : Channel) (part : Part) (last : Bool) (position : ℕ) (o : Option Word) → (o ≡ None → ⊥) →
     drive_word c part last position o ≡ On c (sample_of_word position o) part last

@@ -6,7 +6,7 @@ use Rattle.std.specs.List.{range_with_len}
 use Rattle.bus_base.specs.declared.samples.Sample.TheVariants.{Quiet}
 use Rattle.bus_base.specs.declared.samples.Drive.{Drive}
 use Rattle.bus_words.specs.declared.word.Word.{Word}
-use Rattle.bus_line.specs.Past.{quiet_ticks, runs, samples_from, slot_word, burst_from, ended_now, end_since}
+use Rattle.bus_line.specs.Past.{InLeg, quiet_ticks, runs, samples_from, slot_word, burst_from, ended_now, end_since}
 use Rattle.bus_line.specs.Spelling.{spelled, spelling, word_in}
 use Rattle.bus_line.proofs.Guessed.{word_in-spelling}
 use Rattle.bus_line.proofs.Heard.{heard-spelling}
@@ -18,7 +18,7 @@ use Rattle.bus_model.specs.Wire.{struck_sample}
 use Rattle.bus_law_line.specs.Shown.{sample_of_word, struck_of, struck_spelling, slots_shown, shown_on}
 use Rattle.bus_law_line.specs.Senders.{Sender, SentAlone, LeftAlone, AreHeard}
 use Rattle.bus_law_line.proofs.Sent.{some-word, all-samples, left-quiet}
-use Rattle.bus_law_line.proofs.Rows.{samples-row, running-row, ended-row, end-row}
+use Rattle.bus_law_line.proofs.Rows.{samples-row, in-leg-quiet, running-row, ended-row, end-row}
 
 -- ---- one slot
 
@@ -103,6 +103,10 @@ unstruck words fit = (heard-unstruck words, slots-unstruck 0 words fit)
 length-shown : (faults : List Fault) (s : Sender) (before : List (List Drive)) → length (shown_on faults s.channel before) ≡ length before
 length-shown faults s [] = refl
 length-shown faults s (now ∷ before) = ap suc (length-shown faults s before)
+
+pub leg-sent : (k : ℕ) (hits : List Hit) (words : List Word) (n j : ℕ) → AreHeard hits words → 0 < n → n ≤ 40 * length words → j ≤ k →
+    InLeg k (quiet_ticks j ++ struck_spelling hits words n)
+leg-sent k hits words n j heard some fits few = in-leg-quiet k (struck_of hits words) n j (λ i low. heard i (omega (arith, low, fits))) some few
 
 pub endless : (k : ℕ) (faults : List Fault) (s : Sender) (hits : List Hit) (before sent : List (List Drive)) →
     runs k (shown_on faults s.channel before) ≡ false → SentAlone faults s hits before sent → AreHeard hits s.words →

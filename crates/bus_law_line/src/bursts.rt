@@ -4,15 +4,18 @@ ghost use Rattle.std.specs.Prelude.{◌≡◌, ℕ, suc, ◌+◌, ◌*◌, ◌<�
 ghost use Rattle.std.specs.List.{All};
 ghost use Rattle.bus_base.specs.declared.samples.Drive.{Drive};
 ghost use Rattle.bus_words.specs.declared.word.Word.{Word};
-ghost use Rattle.bus_line.specs.Past.{runs, ended_now, end_since};
+ghost use Rattle.bus_line.specs.Past.{InLeg, quiet_ticks, runs, ended_now, end_since};
 ghost use Rattle.bus_formats.specs.declared.fault.Fault.{Fault};
 ghost use Rattle.bus_formats.specs.declared.fault.Hit.{Hit};
-ghost use Rattle.bus_law_line.specs.Shown.{shown_on, slots_shown};
+ghost use Rattle.bus_law_line.specs.Shown.{struck_spelling, shown_on, slots_shown};
 ghost use Rattle.bus_law_line.specs.Senders.{Sender, SentAlone, LeftAlone, AreHeard};
 
-/// While words are sent of which the faults leave no sample quiet, what began with them has no end, however long they are. At every lag.
+/// While words are sent of which the faults leave no sample quiet, what began with them has no end, however long they are; and what is shown of
+/// them, with up to k quiet ticks after it, is a leg: ticks of one burst. At every lag.
 pub fn words_are_sent_without_an_end()
-    ensures { (k : ℕ) (faults : List Fault) (s : Sender) (hits : List Hit) (before sent : List (List Drive)) →
+    ensures leg { (k : ℕ) (hits : List Hit) (words : List Word) (n j : ℕ) → AreHeard hits words → 0 < n → n ≤ 40 * length words → j ≤ k →
+        InLeg k (quiet_ticks j ++ struck_spelling hits words n) }
+    ensures endless { (k : ℕ) (faults : List Fault) (s : Sender) (hits : List Hit) (before sent : List (List Drive)) →
         runs k (shown_on faults s.channel before) ≡ false → SentAlone faults s hits before sent → AreHeard hits s.words →
         end_since k (shown_on faults s.channel (sent ++ before)) (length before) ≡ None }
 {}

@@ -9,5 +9,6 @@ pub mod sending;
 
 pub use bursts::{what_was_sent_is_the_burst_that_ends, words_are_sent_without_an_end};
 pub use sending::{
-    a_channel_left_alone_is_quiet, a_sender_shows_its_words, the_world_shows_what_is_driven,
+    a_channel_left_alone_is_quiet, a_sender_shows_its_words, nothing_is_sent_after_the_words,
+    the_world_shows_what_is_driven,
 };

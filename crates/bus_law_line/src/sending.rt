@@ -1,8 +1,11 @@
 //! What a channel shows of what is driven. Laws alone, each the contract of an empty function.
 
-ghost use Rattle.std.specs.Prelude.{◌≡◌, ℕ, List, [], ◌∷◌, ◌++◌, length};
+ghost use Rattle.std.specs.Prelude.{◌≡◌, ℕ, ◌*◌, ◌≤◌, List, [], ◌∷◌, ◌++◌, length};
 ghost use Rattle.bus_base.specs.declared.samples.Channel.{Channel};
 ghost use Rattle.bus_base.specs.declared.samples.Drive.{Drive};
+ghost use Rattle.bus_base.specs.declared.samples.Drive.TheVariants.{Silent};
+ghost use Rattle.bus_base.specs.declared.samples.Part.{Part};
+ghost use Rattle.bus_words.specs.declared.word.Word.{Word};
 ghost use Rattle.bus_line.specs.Channels.{on_channel};
 ghost use Rattle.bus_line.specs.Past.{quiet_ticks};
 ghost use Rattle.bus_formats.specs.Plans.{PlanData};
@@ -10,6 +13,7 @@ ghost use Rattle.bus_formats.specs.declared.fault.Fault.{Fault};
 ghost use Rattle.bus_formats.specs.declared.fault.Hit.{Hit};
 ghost use Rattle.bus_model.specs.Memory.{TimedLoad};
 ghost use Rattle.bus_model.specs.Control.{OutsideTake};
+ghost use Rattle.bus_model.specs.Sending.{drive_sample};
 ghost use Rattle.bus_model.specs.Strikes.{added_by};
 ghost use Rattle.bus_model.specs.Wire.{samples_on, drivers};
 ghost use Rattle.bus_model.specs.World.{world, trace};
@@ -31,6 +35,11 @@ pub fn a_sender_shows_its_words()
     ensures spent { (faults : List Fault) (s : Sender) (hits : List Hit) (before sent : List (List Drive)) (now : List Drive) →
         SentAlone faults s hits before (now ∷ sent) → added_by hits ≡ 0 →
         (station : ℕ) → IsSpent faults s.channel ((now ∷ sent) ++ before) station }
+{}
+
+/// After the last sample of its words a station drives nothing.
+pub fn nothing_is_sent_after_the_words()
+    ensures { (c : Channel) (part : Part) (words : List Word) (i : ℕ) → 40 * length words ≤ i → drive_sample c part words i ≡ Silent }
 {}
 
 /// A channel that no station drives, and on which no transmission has an extra left to show, is quiet, and stays so.

@@ -8,18 +8,16 @@ use Rattle.std.specs.Option.{option_or}
 use Rattle.bus_base.specs.Samples.{sample_on, other_of, same_channel}
 use Rattle.bus_base.specs.declared.samples.Channel.{Channel}
 use Rattle.bus_base.specs.declared.samples.Channel.TheVariants.{A, B}
-use Rattle.bus_base.specs.declared.samples.Sample.{Sample}
-use Rattle.bus_base.specs.declared.samples.Drive.TheVariants.{Silent}
 use Rattle.bus_line.specs.Past.{Burst, first_tick, ended_now, end_of, rest_of}
 use Rattle.bus_line.proofs.CollectLaws.{end-closes}
 use Rattle.bus_line.proofs.Legs.{first_tick-leg}
 use Rattle.bus_formats.specs.Plans.{TerminalData}
 use Rattle.bus_model.specs.Waits.{relay_wait}
 use Rattle.bus_model.specs.Memory.{Memory, TimedLoad, with_loads}
-use Rattle.bus_model.specs.Orders.{Duty, free, owes, promises, Order, Obeyed, last_order, obey, keep_promise}
+use Rattle.bus_model.specs.Orders.{promises, Order, Obeyed, last_order}
 use Rattle.bus_model.specs.Hearing.{Moment, heard_on, is_addressed}
-use Rattle.bus_model.specs.Standing.{Standing, mark_on, obeys, settles, superseded, is_newer, outrun, is_owed, is_promise, promised_on}
-use Rattle.bus_model.specs.Terminal.{drive_duty, order_by, order_of, order_on, running_out, order_now, addressed_on, after_tick, after_order, kept_by, done_in, taken_by, standing, drives, took_now}
+use Rattle.bus_model.specs.Standing.{Standing, mark_on, obeys, settles, superseded, is_newer, outrun, is_promise, promised_on}
+use Rattle.bus_model.specs.Terminal.{order_by, order_of, order_on, running_out, order_now, addressed_on, after_tick, after_order, kept_by, done_in, taken_by, standing, took_now}
 use Rattle.bus_law_stations.specs.Legs.{with_addressed, IsUnheeded, HearsBurst, IsReady, obeyed_in, settled_in, after_command, after_promise}
 use Rattle.bus_law_stations.proofs.Resting.{heard-long}
 use Rattle.bus_law_stations.proofs.LegTicks.{heard-append, end-no-slot, end-slots}

@@ -1,5 +1,5 @@
 -- A controller that sends the command of a message.
-use Rattle.std.proofs.Common.{◌≡◌, inl, inr, ℕ, suc, ◌+◌, ◌-◌, ◌<◌, ◌≤◌, true, false, List, [], ◌∷◌, ◌++◌, length, Option, Some, None, refl, sym, ap, ◌∙◌, arith, length-append}
+use Rattle.std.proofs.Common.{◌≡◌, inl, inr, ℕ, suc, ◌+◌, ◌-◌, ◌<◌, ◌≤◌, true, List, [], ◌∷◌, ◌++◌, length, Some, None, refl, sym, ap, ◌∙◌, arith, length-append}
 use Rattle.std.proofs.lemmas.Bool.{eq-eqb, cases_lt, true≢false}
 use Rattle.std.specs.Prelude.{◌==◌, if◌then◌else◌, Bool}
 use Rattle.bus_base.specs.Samples.{sample_on}
@@ -7,7 +7,7 @@ use Rattle.bus_base.specs.declared.samples.Channel.{Channel}
 use Rattle.bus_base.specs.declared.samples.Pair.{Pair}
 use Rattle.bus_base.specs.declared.samples.Part.TheVariants.{Command}
 use Rattle.bus_base.specs.declared.samples.Sample.{Sample}
-use Rattle.bus_line.specs.Past.{Burst, InLeg, end_of, runs, first_tick, ended_now, first_heard, end_since}
+use Rattle.bus_line.specs.Past.{Burst, end_of, first_tick, ended_now, first_heard, end_since}
 use Rattle.bus_line.specs.Bursts.{IsEndedNow}
 use Rattle.bus_line.specs.Channels.{on_channel}
 use Rattle.bus_line.proofs.ChannelLaws.{length-on, on-append}
@@ -24,8 +24,8 @@ use Rattle.bus_formats.specs.declared.form.Outcome.TheVariants.{Sent}
 use Rattle.bus_formats.specs.declared.form.Shape.{Shape}
 use Rattle.bus_model.specs.Sending.{drive_sample}
 use Rattle.bus_model.specs.Starts.{Entry, start_of}
-use Rattle.bus_model.specs.Attempts.{Begun, Ended, without_words}
-use Rattle.bus_model.specs.Controller.{awaited, reply, ending_now, ending_after, command_ending, first_ending, drive_command}
+use Rattle.bus_model.specs.Attempts.{Begun, without_words}
+use Rattle.bus_model.specs.Controller.{ending_now, ending_after, command_ending, first_ending, drive_command}
 use Rattle.bus_model.specs.Course.{Take, Course, course, quiet_from, begin_entry, run_by, runs_next, close, close_or_run, run_on, with_takes, drive_by, drive_course}
 use Rattle.bus_law_stations.specs.Silence.{AreTaken, AwaitsFirst}
 use Rattle.bus_law_stations.specs.Messages.{BeginsMessage, message_begun, with_running, ShowsBurst}
@@ -142,7 +142,8 @@ module _ (k : ℕ) (station : StationData) (starts : Bool) (takes : List Take) (
       ended_now k (on_channel begun.state.channel (now ∷ (ticks ++ past))) ≡ Some burst →
       course k station starts takes (now ∷ (ticks ++ past))
       ≡ with_takes takes (suc (length (ticks ++ past))) (close_or_run (with_running (course k station starts takes past) begun) begun (length (ticks ++ past))
-      (command_ending k entry.item (now ∷ (ticks ++ past)) (on_channel begun.state.channel (now ∷ (ticks ++ past))) (end_of burst) (answers_of entry.item.kind).first))
+      (command_ending k entry.item (now ∷ (ticks ++ past)) (on_channel begun.state.channel (now ∷ (ticks ++ past))) (end_of burst)
+      (answers_of entry.item.kind).first))
   unfolding course
   at-end [] now burst shows ended = absurd (burst-some k begun.state.channel past now burst shows ended)
   at-end (first ∷ ticks) now burst shows ended =
@@ -164,7 +165,8 @@ module _ (k : ℕ) (station : StationData) (starts : Bool) (takes : List Take) (
       at-end ticks now burst shows ended
       ∙ ap (λ o. with_takes takes (suc (length (ticks ++ past))) (close_or_run (with_running c begun) begun (length (ticks ++ past))
       (command_ending k entry.item shown (on_channel begun.state.channel shown) (end_of burst) o))) none
-      ∙ not-taken (length past) (suc (length (ticks ++ past))) takes (close c begun (without_words Sent None None) (length (ticks ++ past))) taken (omega (arith, both))
+      ∙ not-taken (length past) (suc (length (ticks ++ past))) takes (close c begun (without_words Sent None None) (length (ticks ++ past))) taken
+      (omega (arith, both))
 
   pub command-waits : (ticks : List Pair) (now : Pair) (burst : Burst) (shape : Shape) → k < 24 → ShowsBurst k begun.state.channel past ticks →
       ended_now k (on_channel begun.state.channel (now ∷ (ticks ++ past))) ≡ Some burst → (answers_of entry.item.kind).first ≡ Some shape →
@@ -175,12 +177,13 @@ module _ (k : ℕ) (station : StationData) (starts : Bool) (takes : List Take) (
       let shown = now ∷ (ticks ++ past) in
       let both : length (ticks ++ past) ≡ length ticks + length past = pairs-append ticks past in
       let silent = quiet-since-end k (on_channel begun.state.channel shown) burst ended in
-      let early = long-since-end k (on_channel begun.state.channel shown) burst ended small in
-      (at-end ticks now burst shows ended
-      ∙ ap (λ o. with_takes takes (suc (length (ticks ++ past))) (close_or_run (with_running c begun) begun (length (ticks ++ past))
-      (command_ending k entry.item shown (on_channel begun.state.channel shown) (end_of burst) o))) some
-      ∙ ap (λ r. with_takes takes (suc (length (ticks ++ past))) (close_or_run (with_running c begun) begun (length (ticks ++ past))
-      (first_ending k entry.item shown (on_channel begun.state.channel shown) (end_of burst) r)))
-      (reply-awaited k (on_channel begun.state.channel shown) (end_of burst) silent early)
-      ∙ not-taken (length past) (suc (length (ticks ++ past))) takes (with_running c begun) taken (omega (arith, both)),
-      record { ended = burst-end k begun.state.channel past ticks now burst shows ended; shape = shape; expects = some; silent = silent })
+      let early = long-since-end k (on_channel begun.state.channel shown) burst ended small in (
+        at-end ticks now burst shows ended
+            ∙ ap (λ o. with_takes takes (suc (length (ticks ++ past))) (close_or_run (with_running c begun) begun (length (ticks ++ past))
+            (command_ending k entry.item shown (on_channel begun.state.channel shown) (end_of burst) o))) some
+            ∙ ap (λ r. with_takes takes (suc (length (ticks ++ past))) (close_or_run (with_running c begun) begun (length (ticks ++ past))
+            (first_ending k entry.item shown (on_channel begun.state.channel shown) (end_of burst) r)))
+            (reply-awaited k (on_channel begun.state.channel shown) (end_of burst) silent early)
+            ∙ not-taken (length past) (suc (length (ticks ++ past))) takes (with_running c begun) taken (omega (arith, both)),
+        record { ended = burst-end k begun.state.channel past ticks now burst shows ended; shape = shape; expects = some; silent = silent },
+      )

@@ -8,4 +8,6 @@ pub mod Obeying
 pub mod BurstEnds
 pub mod SenderTicks
 pub mod Commanding
+pub mod AnswerTicks
 pub mod Reading
+pub mod Unheeded

@@ -5,15 +5,21 @@ ghost use Rattle.bus_base.specs.Samples.{other_of};
 ghost use Rattle.bus_base.specs.declared.samples.Channel.{Channel};
 ghost use Rattle.bus_base.specs.declared.samples.Drive.TheVariants.{Silent};
 ghost use Rattle.bus_words.specs.declared.word.Word.{Word};
-ghost use Rattle.bus_line.specs.Past.{Burst, end_of, rest_of, ended_now};
+ghost use Rattle.bus_line.specs.Past.{Burst, end_of, rest_of, quiet_ticks, runs, ended_now};
 ghost use Rattle.bus_formats.specs.Plans.{TerminalData};
 ghost use Rattle.bus_model.specs.Memory.{Memory, TimedLoad};
 ghost use Rattle.bus_model.specs.Orders.{Obeyed, Order, last_order, owes, promises};
 ghost use Rattle.bus_model.specs.Hearing.{Moment, heard_on};
 ghost use Rattle.bus_model.specs.Sending.{drive_sample};
-ghost use Rattle.bus_model.specs.Standing.{is_owed, is_promise, superseded};
+ghost use Rattle.bus_model.specs.Standing.{Standing, is_owed, is_promise, superseded};
 ghost use Rattle.bus_model.specs.Terminal.{standing, drives, took_now};
-ghost use Rattle.bus_law_stations.specs.Legs.{IsUnheeded, HearsBurst, IsReady, BeginsAnswer, with_addressed, with_sent, obeyed_in, settled_in, after_command, after_promise};
+ghost use Rattle.bus_law_stations.specs.Legs.{IsUnheeded, AreUnheeded, HearsBurst, IsReady, BeginsAnswer, with_addressed, with_sent, obeyed_in, settled_in, after_command, after_promise};
+
+/// On a channel that is quiet, and on which no burst runs, nothing counts for a terminal. At every lag.
+pub fn a_quiet_channel_is_not_heeded()
+    ensures { (k : ℕ) (terminal : TerminalData) (s : Standing) (c : Channel) (heard ticks : List Moment) → runs k (heard_on c heard) ≡ false →
+        heard_on c ticks ≡ quiet_ticks (length ticks) → AreUnheeded k terminal s c heard ticks }
+{}
 
 /// While a burst runs nothing changes of a terminal but that addressed slots are marked, and if it owes no answer it sends nothing.
 pub fn a_running_burst_changes_only_marks()

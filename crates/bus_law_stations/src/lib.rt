@@ -7,7 +7,8 @@ pub mod messages;
 pub mod silence;
 
 pub use legs::{
-    a_burst_is_obeyed_or_taken, a_running_burst_changes_only_marks, a_sender_ignores_what_it_sends,
+    a_burst_is_obeyed_or_taken, a_quiet_channel_is_not_heeded, a_running_burst_changes_only_marks,
+    a_sender_ignores_what_it_sends,
 };
 pub use messages::{a_controller_sends_its_command, an_answer_is_read};
 pub use silence::{

@@ -47,29 +47,34 @@ pub fn a_controller_sends_its_command()
 {}
 
 /// While an answer runs that began in time nothing changes of the controller that waits for it. With its end it is read: its slots and rest decide
-/// how the message ends, or that a relay's second answer is awaited, whatever struck them and on the other channel. At every lag below the wait for an answer.
+/// how the message ends, or that a relay's second answer is awaited, whatever struck them and on the other channel. At every lag below the wait
+/// for an answer.
 pub fn an_answer_is_read()
     ensures runs { (k : ℕ) (station : StationData) (starts : Bool) (takes : List Take) (past ticks : List Pair) (begun : Begun) (e : ℕ) →
         let c : Course = course k station starts takes past in AreTaken (length past) takes → IsAnswered begun c past e →
         AwaitsFirst k begun (on_channel begun.state.channel past) e ⊎ AwaitsSecond k begun (on_channel begun.state.channel past) e →
         ShowsBurst k begun.state.channel past ticks →
         (course k station starts takes (ticks ++ past) ≡ c) × (drive_course k (ticks ++ past) (course k station starts takes (ticks ++ past)) ≡ Silent) }
-    ensures first { (k : ℕ) (station : StationData) (starts : Bool) (takes : List Take) (past ticks : List Pair) (now : Pair) (begun : Begun) (e : ℕ) (burst : Burst) →
+    ensures first { (k : ℕ) (station : StationData) (starts : Bool) (takes : List Take) (past ticks : List Pair) (now : Pair) (begun : Begun) (e : ℕ)
+        (burst : Burst) →
         let c : Course = course k station starts takes past in let shown : List Pair = now ∷ (ticks ++ past) in
         AreTaken (length past) takes → IsAnswered begun c past e → AwaitsFirst k begun (on_channel begun.state.channel past) e →
         ShowsBurst k begun.state.channel past ticks → ended_now k (on_channel begun.state.channel shown) ≡ Some burst →
         course k station starts takes shown ≡ close_or_run c begun (length (ticks ++ past))
-        (first_read k begun.entry.item shown (on_channel begun.state.channel shown) burst (read_answer begun.entry.item.kind First burst.slots (rest_of burst))) }
-    ensures relayed { (k : ℕ) (station : StationData) (starts : Bool) (takes : List Take) (past ticks : List Pair) (now : Pair) (begun : Begun) (e : ℕ) (burst : Burst)
-        (shape : Shape) (status : ℕ) → k < 24 → let c : Course = course k station starts takes past in let shown : List Pair = now ∷ (ticks ++ past) in
+        (first_read k begun.entry.item shown (on_channel begun.state.channel shown) burst
+        (read_answer begun.entry.item.kind First burst.slots (rest_of burst))) }
+    ensures relayed { (k : ℕ) (station : StationData) (starts : Bool) (takes : List Take) (past ticks : List Pair) (now : Pair) (begun : Begun) (e : ℕ)
+        (burst : Burst) (shape : Shape) (status : ℕ) → k < 24 → let c : Course = course k station starts takes past in let shown : List Pair = now ∷ (ticks ++ past) in
         AreTaken (length past) takes → IsAnswered begun c past e → AwaitsFirst k begun (on_channel begun.state.channel past) e →
         ShowsBurst k begun.state.channel past ticks → ended_now k (on_channel begun.state.channel shown) ≡ Some burst →
         read_answer begun.entry.item.kind First burst.slots (rest_of burst) ≡ Good status → (answers_of begun.entry.item.kind).second ≡ Some shape →
         (course k station starts takes shown ≡ c) × AwaitsSecond k begun (on_channel begun.state.channel shown) (end_of burst) }
-    ensures second { (k : ℕ) (station : StationData) (starts : Bool) (takes : List Take) (past ticks : List Pair) (now : Pair) (begun : Begun) (e : ℕ) (burst : Burst) →
+    ensures second { (k : ℕ) (station : StationData) (starts : Bool) (takes : List Take) (past ticks : List Pair) (now : Pair) (begun : Begun) (e : ℕ)
+        (burst : Burst) →
         let c : Course = course k station starts takes past in let shown : List Pair = now ∷ (ticks ++ past) in
         AreTaken (length past) takes → IsAnswered begun c past e → (waits : AwaitsSecond k begun (on_channel begun.state.channel past) e) →
         ShowsBurst k begun.state.channel past ticks → ended_now k (on_channel begun.state.channel shown) ≡ Some burst →
         course k station starts takes shown ≡ close_or_run c begun (length (ticks ++ past))
-        (second_read k begun.entry.item shown (on_channel begun.state.channel shown) waits.status (read_answer begun.entry.item.kind Second burst.slots (rest_of burst))) }
+        (second_read k begun.entry.item shown (on_channel begun.state.channel shown) waits.status
+        (read_answer begun.entry.item.kind Second burst.slots (rest_of burst))) }
 {}
