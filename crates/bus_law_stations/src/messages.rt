@@ -64,7 +64,8 @@ pub fn an_answer_is_read()
         (first_read k begun.entry.item shown (on_channel begun.state.channel shown) burst
         (read_answer begun.entry.item.kind First burst.slots (rest_of burst))) }
     ensures relayed { (k : ℕ) (station : StationData) (starts : Bool) (takes : List Take) (past ticks : List Pair) (now : Pair) (begun : Begun) (e : ℕ)
-        (burst : Burst) (shape : Shape) (status : ℕ) → k < 24 → let c : Course = course k station starts takes past in let shown : List Pair = now ∷ (ticks ++ past) in
+        (burst : Burst) (shape : Shape) (status : ℕ) → k < 24 → let c : Course = course k station starts takes past in
+        let shown : List Pair = now ∷ (ticks ++ past) in
         AreTaken (length past) takes → IsAnswered begun c past e → AwaitsFirst k begun (on_channel begun.state.channel past) e →
         ShowsBurst k begun.state.channel past ticks → ended_now k (on_channel begun.state.channel shown) ≡ Some burst →
         read_answer begun.entry.item.kind First burst.slots (rest_of burst) ≡ Good status → (answers_of begun.entry.item.kind).second ≡ Some shape →
