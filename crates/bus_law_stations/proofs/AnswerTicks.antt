@@ -74,7 +74,8 @@ reply-running k channel past ticks x e shows early prompt none =
 
 -- with its end it is whole
 pub reply-whole : (k : ℕ) (channel : Channel) (past ticks : List Pair) (now : Pair) (e : ℕ) (burst : Burst) → ShowsBurst k channel past ticks →
-    e ≤ length past → length past ≤ e + no_response → first_heard (on_channel channel past) e ≡ None → ended_now k (on_channel channel (now ∷ (ticks ++ past))) ≡ Some burst →
+    e ≤ length past → length past ≤ e + no_response → first_heard (on_channel channel past) e ≡ None →
+    ended_now k (on_channel channel (now ∷ (ticks ++ past))) ≡ Some burst →
     reply k (on_channel channel (now ∷ (ticks ++ past))) e ≡ whole burst
 reply-whole k channel past [] now e burst shows early prompt none ended = absurd (burst-some k channel past now burst shows ended)
 reply-whole k channel past (x ∷ ticks) now e burst shows early prompt none ended =
