@@ -1,0 +1,13 @@
+pub mod Resting
+pub mod StillTerminal
+pub mod StillController
+pub mod StillStation
+pub mod LegTicks
+pub mod Ready
+pub mod Obeying
+pub mod BurstEnds
+pub mod SenderTicks
+pub mod Commanding
+pub mod AnswerTicks
+pub mod Reading
+pub mod Unheeded

@@ -1,0 +1,16 @@
+//! What a station does of all that it hears: the second of the laws by which the world does what the message table says. Laws alone, each
+//! the contract of an empty function, over one station and any past. Proved: quiet ticks change nothing of a station before something is due.
+#![tactic(auto)]
+
+pub mod legs;
+pub mod messages;
+pub mod silence;
+
+pub use legs::{
+    a_burst_is_obeyed_or_taken, a_quiet_channel_is_not_heeded, a_running_burst_changes_only_marks,
+    a_sender_ignores_what_it_sends,
+};
+pub use messages::{a_controller_sends_its_command, an_answer_is_read};
+pub use silence::{
+    quiet_ticks_change_no_controller, quiet_ticks_change_no_station, quiet_ticks_change_no_terminal,
+};
