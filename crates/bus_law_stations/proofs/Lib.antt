@@ -11,3 +11,4 @@ pub mod Commanding
 pub mod AnswerTicks
 pub mod Reading
 pub mod Unheeded
+pub mod Turning
