@@ -12,3 +12,4 @@ pub mod AnswerTicks
 pub mod Reading
 pub mod Unheeded
 pub mod Turning
+pub mod Due

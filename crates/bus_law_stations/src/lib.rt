@@ -4,11 +4,13 @@
 //! hears by its terminal alone, one in control by its controller.
 #![tactic(auto)]
 
+pub mod answers;
 pub mod legs;
 pub mod messages;
 pub mod silence;
 pub mod turns;
 
+pub use answers::{a_settled_promise_is_answered_when_due, an_obeyed_command_is_answered_when_due};
 pub use legs::{
     a_burst_is_obeyed_or_taken, a_quiet_channel_is_not_heeded, a_running_burst_changes_only_marks,
     a_sender_ignores_what_it_sends,
