@@ -1,0 +1,7 @@
+//! What the world shows of one message: the third of the laws by which the world does what the message table says. Laws alone, each the contract
+//! of an empty function. Proved: from a settled moment the station in control sends its command, alone, and the channel shows it.
+#![tactic(auto)]
+
+pub mod commands;
+
+pub use commands::a_command_is_sent_alone;
