@@ -30,7 +30,7 @@ module _ (k : ℕ) (station : StationData) (starts : Bool) (loads : List TimedLo
   abbrev later_course : List Pair → Course
   later_course ticks = course k station starts (so_far k station starts loads outside past).takes (ticks ++ past)
 
-  still-holds : (ticks : List Pair) → ShowsBurst k begun.state.channel past ticks → (later_course ticks).holds ≡ true
+  pub still-holds : (ticks : List Pair) → ShowsBurst k begun.state.channel past ticks → (later_course ticks).holds ≡ true
   still-holds [] shows = controls.holds
   still-holds (first ∷ ticks) shows =
       ap (λ (c : Course). c.holds)

@@ -1,3 +1,5 @@
 pub mod Listening
 pub mod Holding
 pub mod Sending
+pub mod Quieting
+pub mod Heard

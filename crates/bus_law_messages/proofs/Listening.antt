@@ -39,7 +39,7 @@ pub moments-shown : (c : Channel) (course : Course) (ticks : List Pair) → hear
 moments-shown c course [] = refl
 moments-shown c course (shown ∷ ticks) = ap (λ xs. sample_on shown c ∷ xs) (moments-shown c course ticks)
 
-moments-many : (course : Course) (ticks : List Pair) → length (moments_of course ticks) ≡ length ticks
+pub moments-many : (course : Course) (ticks : List Pair) → length (moments_of course ticks) ≡ length ticks
 moments-many course [] = refl
 moments-many course (shown ∷ ticks) = ap suc (moments-many course ticks)
 
@@ -115,7 +115,7 @@ leg-not-ended k c heard ticks now leg =
     ap (ended_now k) (heard-append c (now ∷ ticks) heard) ∙ leg-ends-not k (sample_on now.shown c) (heard_on c ticks) (heard_on c heard) leg
 
 -- nor on the one that is quiet
-quiet-not-ended : (k : ℕ) (c : Channel) (heard ticks : List Moment) (now : Moment) → runs k (heard_on c heard) ≡ false →
+pub quiet-not-ended : (k : ℕ) (c : Channel) (heard ticks : List Moment) (now : Moment) → runs k (heard_on c heard) ≡ false →
     heard_on c (now ∷ ticks) ≡ quiet_ticks (length (now ∷ ticks)) → ended_now k (heard_on c (now ∷ (ticks ++ heard))) ≡ None
 quiet-not-ended k c heard ticks now rests quiet =
     let past = heard_on c (ticks ++ heard) in
@@ -126,7 +126,7 @@ quiet-not-ended k c heard ticks now rests quiet =
     ap (λ x. ended_now k (x ∷ past)) here
     ∙ ended-quiet k past (ap (runs k) whole ∙ rests-quiet k (length ticks) (heard_on c heard) rests)
 
-this-or-other : (c d : Channel) → (d ≡ c) ⊎ (d ≡ other_of c)
+pub this-or-other : (c d : Channel) → (d ≡ c) ⊎ (d ≡ other_of c)
 this-or-other A A = inl refl
 this-or-other A B = inr refl
 this-or-other B A = inr refl
@@ -160,10 +160,10 @@ module _ (k : ℕ) (station : StationData) (starts : Bool) (loads : List TimedLo
   abbrev course : Course
   course = course_after k station starts loads outside past
 
-  shown-leg : (ticks : List Pair) → InLeg k (on_channel c ticks) → InLeg k (heard_on c (moments_of course ticks))
+  pub shown-leg : (ticks : List Pair) → InLeg k (on_channel c ticks) → InLeg k (heard_on c (moments_of course ticks))
   shown-leg ticks leg = rw (moments-shown c course ticks) leg
 
-  shown-quiet : (d : Channel) (ticks : List Pair) → on_channel d ticks ≡ quiet_ticks (length ticks) →
+  pub shown-quiet : (d : Channel) (ticks : List Pair) → on_channel d ticks ≡ quiet_ticks (length ticks) →
       heard_on d (moments_of course ticks) ≡ quiet_ticks (length (moments_of course ticks))
   shown-quiet d ticks quiet = moments-shown d course ticks ∙ quiet ∙ ap quiet_ticks (sym (moments-many course ticks))
 

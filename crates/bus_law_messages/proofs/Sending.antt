@@ -60,11 +60,11 @@ other-word B part last position (Some word) = refl
 pub other-undriven : (c : Channel) (part : Part) (words : List Word) (i : ℕ) → drives_on (other_of c) (drive_sample c part words i) ≡ false
 other-undriven c part words i = other-word c part (suc i == 40 * length words) (i % 40) (slice_get words (i / 40))
 
-absent-silent : (b : Bool) (drive : Drive) → (b ≡ true → drive ≡ Silent) → (if b then drive else Silent) ≡ Silent
+pub absent-silent : (b : Bool) (drive : Drive) → (b ≡ true → drive ≡ Silent) → (if b then drive else Silent) ≡ Silent
 absent-silent true drive silent = silent refl
 absent-silent false drive silent = refl
 
-silent-or : (o : Option StationData) (drives : StationData → Drive) → ((station : StationData) → o ≡ Some station → drives station ≡ Silent) →
+pub silent-or : (o : Option StationData) (drives : StationData → Drive) → ((station : StationData) → o ≡ Some station → drives station ≡ Silent) →
     drive_or (option_map drives o) ≡ Silent
 silent-or None drives silent = refl
 silent-or (Some station) drives silent = silent station refl

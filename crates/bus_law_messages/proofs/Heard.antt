@@ -1,0 +1,222 @@
+-- A serving station, free before, where the end of another station's burst becomes known: its terminal obeys it or passes it over.
+use Rattle.std.proofs.Common.{◌≡◌, ◌⊎◌, inl, inr, ℕ, suc, ◌+◌, ◌*◌, ◌<◌, ◌≤◌, Bool, true, false, List, [], ◌∷◌, ◌++◌, length, Option, Some, None, refl, sym, ap, ◌∙◌, subst, arith, length-append}
+use Rattle.std.proofs.lemmas.Bool.{true≢false}
+use Rattle.std.proofs.lemmas.Bool.Decides.{nat_tests}
+use Rattle.std.proofs.lemmas.List.{append_assoc}
+use Rattle.std.proofs.lemmas.Option.{none-some, same_Some}
+use Rattle.std.specs.Prelude.{◌&&◌, ◌==◌, nat_le, if◌then◌else◌, drop}
+use Rattle.bus_base.specs.Samples.{sample_on, other_of}
+use Rattle.bus_base.specs.declared.samples.Channel.{Channel}
+use Rattle.bus_base.specs.declared.samples.Pair.{Pair}
+use Rattle.bus_base.specs.declared.samples.Sample.{Sample}
+use Rattle.bus_words.specs.declared.word.Word.{Word}
+use Rattle.bus_line.specs.Past.{Burst, InLeg, quiet_ticks, runs, ended_now, end_of, rest_of, burst_from}
+use Rattle.bus_line.specs.Channels.{on_channel}
+use Rattle.bus_formats.specs.Plans.{TerminalData, StationData}
+use Rattle.bus_formats.specs.declared.fault.Hit.{Hit}
+use Rattle.bus_model.specs.Memory.{Memory, TimedLoad}
+use Rattle.bus_model.specs.Orders.{Duty, owes, promises, Order, Obeyed, last_order, due_after}
+use Rattle.bus_model.specs.Orders as orders
+use Rattle.bus_model.specs.Hearing.{Moment, Hearing, heard_on}
+use Rattle.bus_model.specs.Standing.{Standing, is_owed}
+use Rattle.bus_model.specs.Starts.{has_items}
+use Rattle.bus_model.specs.Terminal.{given_up, standing, standing_after, took_now, accepted_by, accepted_on, accepted_now, heard_status}
+use Rattle.bus_model.specs.Course.{Take, Course}
+use Rattle.bus_model.specs.Control.{OutsideTake, StationSoFar, unheard_ticks, moment_of, hear_more, takes_in, taken_over, serve, hold, course_with, so_far, course_after, hearing_after, outside_takes}
+use Rattle.bus_law_line.specs.Shown.{struck_of, struck_spelling, slots_shown}
+use Rattle.bus_law_line.specs.Senders.{AreHeard}
+use Rattle.bus_law_line.proofs.Rows.{ended-row}
+use Rattle.bus_law_line.proofs.WordSlots.{slots-sent}
+use Rattle.bus_law_stations.specs.Legs.{with_addressed, IsUnheeded, obeyed_in, after_command}
+use Rattle.bus_law_stations.specs.Turns.{moments_of, TakesNothing}
+use Rattle.bus_law_stations.proofs.BurstEnds.{obeyed, passed}
+use Rattle.bus_law_stations.proofs.LegTicks.{heard-append}
+use Rattle.bus_law_stations.proofs.Obeying.{running-marks}
+use Rattle.bus_law_stations.proofs.Resting.{heard-long}
+use Rattle.bus_law_stations.proofs.Turning.{serving-hears, serving-same}
+use Rattle.bus_law_stations.proofs.Unheeded.{quiet-unheeded}
+use Rattle.bus_law_messages.specs.Settled.{IsFree, IsServing}
+use Rattle.bus_law_messages.specs.Ends.{burst_sent, HeardCommand}
+use Rattle.bus_law_messages.proofs.Listening.{moments-shown, moments-many, free-ready, free-hears, quiet-not-ended, this-or-other, serving-nothing, shown-leg, shown-quiet}
+
+-- ---- the burst
+
+pub burst-of : (k : ℕ) (hits : List Hit) (words : List Word) (past : List Sample) → runs k past ≡ false → AreHeard hits words → 0 < length words →
+    ended_now k ((quiet_ticks (suc k) ++ struck_spelling hits words (40 * length words)) ++ past) ≡ Some (burst_sent (length past) hits words)
+burst-of k hits words past rests heard some =
+    ap (ended_now k) (append_assoc (quiet_ticks (suc k)) (struck_spelling hits words (40 * length words)) past)
+    ∙ ended-row k (struck_of hits words) (40 * length words) past rests (omega (arith, some)) heard
+    ∙ ap (λ slots. Some (record { first = length past; ticks = 40 * length words; slots = slots })) (slots-sent hits words)
+
+-- ---- a terminal hears every tick of the bus
+
+unheard-long : (past : List Pair) → length (unheard_ticks past) ≡ length past
+unheard-long [] = refl
+unheard-long (x ∷ past) = ap suc (unheard-long past)
+
+module _ (k : ℕ) (station : StationData) (starts : Bool) (loads : List TimedLoad) (outside : List OutsideTake) where
+  over-long : (past : List Pair) (before : StationSoFar) (hearing : Hearing) (takes : List Take) → length hearing.ticks ≡ length past →
+      length (taken_over k station starts loads outside past before hearing takes).hearing.ticks ≡ length past
+  over-long past before hearing [] long = long
+  over-long past before hearing (take ∷ takes) long = unheard-long past
+
+  either-long : (b : Bool) (x : Pair) (past : List Pair) (before : StationSoFar) (c d : Course) → length before.hearing.ticks ≡ length past →
+      length (if b then hold k station starts loads outside x past before d else serve k station starts loads outside x past before c).hearing.ticks
+      ≡ suc (length past)
+  either-long true x past before c d long = ap suc long
+  either-long false x past before c d long =
+      over-long (x ∷ past) before (hear_more before.hearing (moment_of x c))
+      (takes_in k station starts loads outside (length past) (hear_more before.hearing (moment_of x c))) (ap suc long)
+
+  pub hearing-long : (past : List Pair) → length (hearing_after k station starts loads outside past).ticks ≡ length past
+  unfolding so_far
+  hearing-long [] = refl
+  hearing-long (x ∷ past) =
+      let before = so_far k station starts loads outside past in
+      either-long (course_with k station starts loads outside before.takes past).holds x past before
+      (course_with k station starts loads outside before.takes past) (course_with k station starts loads outside before.takes (x ∷ past)) (hearing-long past)
+
+-- ---- a burst that began later than an answer was due is not that answer
+
+status-late : (due n : ℕ) (o : Option Burst) → ((burst : Burst) → o ≡ Some burst → burst.first ≡ n) → due < n → heard_status due o ≡ None
+status-late due n None first late = refl
+status-late due n (Some burst) first late =
+    let at : burst.first ≡ n = first burst refl in
+    let test : ((burst.first == due) && nat_le 40 burst.ticks) ≡ false = grind (arith, nat_tests, at, late) in rw test refl
+
+either-none : (b : Bool) (o : Option ℕ) → o ≡ None → (if b then None else o) ≡ None
+either-none true o none = refl
+either-none false o none = none
+
+accepts-late : (k : ℕ) (t : TerminalData) (loads : List TimedLoad) (past : List Sample) (x : Sample) (s : Standing) (duty : Duty) (n : ℕ) →
+    ((burst : Burst) → ended_now k (x ∷ past) ≡ Some burst → burst.first ≡ n) → (is_owed duty ≡ true → due_after t s.end < n) →
+    accepted_by k t loads past x s duty ≡ None
+accepts-late k t loads past x s orders.free n first late = refl
+accepts-late k t loads past x s (promises command transmitter) n first late = refl
+accepts-late k t loads past x s (owes words false) n first late = refl
+accepts-late k t loads past x s (owes words true) n first late =
+    either-none (given_up k t past s) (heard_status (due_after t s.end) (ended_now k (x ∷ past)))
+    (status-late (due_after t s.end) n (ended_now k (x ∷ past)) first (late refl))
+
+module _ (k : ℕ) (t : TerminalData) (loads : List TimedLoad) (memory : Memory) (c : Channel) (heard ticks : List Moment) (now : Moment) (burst : Burst)
+    (small : k < 40) (frees : IsFree k t (standing k t loads memory heard) heard) (leg : InLeg k (heard_on c ticks))
+    (quiet : heard_on (other_of c) (now ∷ ticks) ≡ quiet_ticks (length (now ∷ ticks)))
+    (ended : ended_now k (heard_on c (now ∷ (ticks ++ heard))) ≡ Some burst) (began : burst.first ≡ length heard) where
+  abbrev s : Standing
+  s = standing k t loads memory heard
+
+  beside : IsUnheeded k t s (other_of c) (now ∷ (ticks ++ heard))
+  beside = (quiet-unheeded k t s (other_of c) heard (now ∷ ticks) (frees.rests (other_of c)) quiet).0
+
+  first-of : (d : Channel) (other : Burst) → ended_now k (heard_on d (now ∷ (ticks ++ heard))) ≡ Some other → other.first ≡ length heard
+  first-of d other is = elim (this-or-other c d) [
+    | inl same ↦ ap (λ (b : Burst). b.first)
+        (sym (same_Some burst other (sym ended ∙ ap (λ e. ended_now k (heard_on e (now ∷ (ticks ++ heard)))) (sym same) ∙ is))) ∙ began
+    | inr apart ↦ absurd (none-some other (sym (ap (λ e. ended_now k (heard_on e (now ∷ (ticks ++ heard)))) apart
+        ∙ quiet-not-ended k (other_of c) heard ticks now (frees.rests (other_of c)) quiet) ∙ is))
+  ]
+
+  before-quiet : heard_on (other_of c) ticks ≡ quiet_ticks (length ticks)
+  before-quiet = ap (λ (xs : List Sample). drop 1 xs) quiet
+
+  pub end-accepts-not : accepted_now k t loads record { memory = memory; ticks = now ∷ (ticks ++ heard) } ≡ None
+  end-accepts-not =
+      let m = running-marks k t loads memory c heard ticks small (free-ready k t s c heard frees) (free-hears k t s c heard ticks frees leg before-quiet) in
+      ap (accepted_on k t loads now (ticks ++ heard)) m.1
+      ∙ accepts-late k t loads (heard_on s.channel (ticks ++ heard)) (sample_on now.shown s.channel) (with_addressed s c m.0) s.duty (length heard)
+      (first-of s.channel) (free-ready k t s c heard frees).answer
+
+  pub end-obeyed : (order : Order) → last_order t.address burst.slots ≡ Some order →
+      let o : Obeyed = obeyed_in t loads (length (ticks ++ heard)) s c order (rest_of burst) now.may in
+      (slot_end : ℕ) × (length heard ≤ slot_end) × (slot_end < length (ticks ++ heard))
+      × (standing k t loads memory (now ∷ (ticks ++ heard)) ≡ after_command s c (end_of burst) slot_end o)
+      × (took_now k t loads record { memory = memory; ticks = now ∷ (ticks ++ heard) } ≡ o.taken)
+  end-obeyed order last =
+      obeyed k t loads memory c heard ticks now burst (free-ready k t s c heard frees) beside ended
+      (free-hears k t s c heard ticks frees leg before-quiet) small order last
+
+  pub end-passed : last_order t.address burst.slots ≡ None →
+      (standing k t loads memory (now ∷ (ticks ++ heard)) ≡ s)
+      × (took_now k t loads record { memory = memory; ticks = now ∷ (ticks ++ heard) } ≡ None)
+  end-passed last =
+      passed k t loads memory c heard ticks now burst (free-ready k t s c heard frees) beside ended
+      (free-hears k t s c heard ticks frees leg before-quiet) small last frees.promise
+
+-- ---- a serving station
+
+module _ (k : ℕ) (station : StationData) (starts : Bool) (loads : List TimedLoad) (outside : List OutsideTake) (past : List Pair) (c : Channel)
+    (small : k < 40) (serving : IsServing k station starts loads outside past) (x : Pair) (ticks : List Pair) (hits : List Hit) (words : List Word)
+    (some : 0 < length words) (audible : AreHeard hits words) (many : length ticks ≡ k + 40 * length words)
+    (leg : InLeg k (on_channel c ticks))
+    (shown : on_channel c (x ∷ ticks) ≡ quiet_ticks (suc k) ++ struck_spelling hits words (40 * length words))
+    (quiet : on_channel (other_of c) (x ∷ ticks) ≡ quiet_ticks (length (x ∷ ticks)))
+    (stays : (tick : ℕ) → length past ≤ tick → tick < length past + length (x ∷ ticks) → outside_takes k station starts loads outside tick outside ≡ []) where
+  abbrev t : TerminalData
+  t = station.terminal
+
+  abbrev course : Course
+  course = course_after k station starts loads outside past
+
+  abbrev hearing : Hearing
+  hearing = hearing_after k station starts loads outside past
+
+  abbrev moments : List Moment
+  moments = moments_of course ticks
+
+  abbrev burst : Burst
+  burst = burst_sent (length past) hits words
+
+  end-burst : ended_now k (heard_on c (moment_of x course ∷ (moments ++ hearing.ticks))) ≡ Some burst
+  end-burst =
+      ap (ended_now k) (heard-append c (moments_of course (x ∷ ticks)) hearing.ticks)
+      ∙ ap (λ xs. ended_now k (xs ++ heard_on c hearing.ticks)) (moments-shown c course (x ∷ ticks) ∙ shown)
+      ∙ burst-of k hits words (heard_on c hearing.ticks) (serving.free.rests c) audible some
+      ∙ ap (λ n. Some (burst_sent n hits words)) (heard-long c hearing.ticks ∙ hearing-long k station starts loads outside past)
+
+  end-quiet : heard_on (other_of c) (moment_of x course ∷ moments) ≡ quiet_ticks (length (moment_of x course ∷ moments))
+  end-quiet = shown-quiet k station starts loads outside past c small serving (other_of c) (x ∷ ticks) quiet
+
+  end-leg : InLeg k (heard_on c moments)
+  end-leg = shown-leg k station starts loads outside past c small serving ticks leg
+
+  took-nothing : TakesNothing k station starts loads outside past (x ∷ ticks)
+  took-nothing =
+      let long : length (ticks ++ past) ≡ length ticks + length past = length-append ticks past in (
+        end-accepts-not k t loads hearing.memory c hearing.ticks moments (moment_of x course) burst small serving.free end-leg end-quiet end-burst
+            (sym (hearing-long k station starts loads outside past)),
+        stays (length (ticks ++ past)) (omega (arith, long)) (omega (arith, long)),
+        serving-nothing k station starts loads outside past c small serving ticks leg (ap (λ (xs : List Sample). drop 1 xs) quiet)
+            (λ tick low high. stays tick low (omega (arith, high))),
+      )
+
+  end-hearing : hearing_after k station starts loads outside ((x ∷ ticks) ++ past)
+      ≡ record { memory = hearing.memory; ticks = moment_of x course ∷ (moments ++ hearing.ticks) }
+  end-hearing = ap (λ (so : StationSoFar). so.hearing) (serving-hears k station starts loads outside past (x ∷ ticks) serving.serves took-nothing)
+
+  handled-at : length (moments ++ hearing.ticks) ≡ end_of burst + k
+  handled-at =
+      let both : length (moments ++ hearing.ticks) ≡ length moments + length hearing.ticks = length-append moments hearing.ticks in
+      let here : length moments ≡ length ticks = moments-many course ticks in
+      let before : length hearing.ticks ≡ length past = hearing-long k station starts loads outside past in
+      omega (arith, both, here, before, many)
+
+  pub heard-command : HeardCommand k station starts loads outside past (x ∷ ticks) c burst
+  heard-command = record {
+    course = serving-same k station starts loads outside past (x ∷ ticks) serving.serves took-nothing;
+    obeyed = λ order last.
+        let s = standing_after k t loads hearing in
+        let e = end-obeyed k t loads hearing.memory c hearing.ticks moments (moment_of x course) burst small serving.free end-leg end-quiet end-burst
+        (sym (hearing-long k station starts loads outside past)) order last in (
+          e.0,
+          ap (standing_after k t loads) end-hearing
+              ∙ e.3
+              ∙ ap (λ tick. after_command s c (end_of burst) e.0 (obeyed_in t loads tick s c order (rest_of burst) (has_items course.left))) handled-at,
+          ap (took_now k t loads) end-hearing
+              ∙ e.4
+              ∙ ap (λ tick. (obeyed_in t loads tick s c order (rest_of burst) (has_items course.left)).taken) handled-at,
+        );
+    passed = λ last.
+        let e = end-passed k t loads hearing.memory c hearing.ticks moments (moment_of x course) burst small serving.free end-leg end-quiet end-burst
+        (sym (hearing-long k station starts loads outside past)) last in
+        (ap (standing_after k t loads) end-hearing ∙ e.0, ap (took_now k t loads) end-hearing ∙ e.1);
+  }

@@ -1,0 +1,76 @@
+-- The end of a command: the quiet ticks in which it becomes known, and what the stations make of it then.
+use Rattle.std.specs.Prelude.{◌≡◌, ℕ, ◌+◌, ◌*◌, Bool, List, ◌++◌, length, Some, None}
+use Rattle.bus_base.specs.Samples.{other_of}
+use Rattle.bus_base.specs.declared.samples.Channel.{Channel}
+use Rattle.bus_base.specs.declared.samples.Drive.{Drive}
+use Rattle.bus_base.specs.declared.samples.Pair.{Pair}
+use Rattle.bus_words.specs.declared.word.Word.{Word}
+use Rattle.bus_line.specs.Past.{Burst, end_of, rest_of, quiet_ticks}
+use Rattle.bus_line.specs.Channels.{on_channel}
+use Rattle.bus_formats.specs.Forms.{answers_of, command_words}
+use Rattle.bus_formats.specs.Plans.{StationData, PlanData}
+use Rattle.bus_formats.specs.declared.fault.Hit.{Hit}
+use Rattle.bus_formats.specs.declared.form.Outcome.TheVariants.{Sent}
+use Rattle.bus_formats.specs.declared.form.Shape.{Shape}
+use Rattle.bus_model.specs.Memory.{TimedLoad}
+use Rattle.bus_model.specs.Orders.{Obeyed, Order, last_order}
+use Rattle.bus_model.specs.Standing.{Standing}
+use Rattle.bus_model.specs.Terminal.{standing_after, took_now}
+use Rattle.bus_model.specs.Starts.{has_items}
+use Rattle.bus_model.specs.Attempts.{Begun, without_words}
+use Rattle.bus_model.specs.Course.{Course, close}
+use Rattle.bus_model.specs.Control.{OutsideTake, course_after, hearing_after}
+use Rattle.bus_model.specs.World.{Trace, ticks_on}
+use Rattle.bus_law_line.specs.Shown.{struck_spelling, slots_shown}
+use Rattle.bus_law_line.specs.Senders.{LeftAlone}
+use Rattle.bus_law_stations.specs.Silence.{AwaitsFirst}
+use Rattle.bus_law_stations.specs.Legs.{obeyed_in, after_command}
+use Rattle.bus_law_stations.specs.Messages.{with_running}
+
+-- the burst that words make, sent from this tick on, as these hits strike them
+abbrev pub burst_sent : ℕ → List Hit → List Word → Burst
+burst_sent start hits words = record { first = start; ticks = 40 * length words; slots = slots_shown hits 0 words }
+
+-- the command of a message was sent in the ticks before, which drove this, and j quiet ticks followed: n in all, the newest first
+pub record CommandEnds (k : ℕ) (plan : PlanData) (loads : List TimedLoad) (outside : List OutsideTake) (absent : List ℕ) (before : Trace)
+    (begun : Begun) (hits : List Hit) (n j : ℕ) (ticks : List Pair) (sent silent : List (List Drive)) : Type 0 where
+  -- these are the ticks of the world
+  pub world : ticks_on k plan loads outside absent before n ≡ record { shown = ticks ++ before.shown; driven = silent ++ (sent ++ before.driven) }
+  pub many : length ticks ≡ n
+  pub after : length silent ≡ j
+  -- after the command no station drives a channel, nor is an extra left to show
+  pub left : (d : Channel) → LeftAlone plan.faults d (sent ++ before.driven) silent
+  -- so the command's channel shows the command, then quiet ticks, and the other one is quiet
+  pub shown : on_channel begun.state.channel ticks
+      ≡ quiet_ticks j ++ struck_spelling hits (command_words begun.entry.item.kind) (40 * length (command_words begun.entry.item.kind))
+  pub quiet : on_channel (other_of begun.state.channel) ticks ≡ quiet_ticks n
+
+-- what the end of this burst on a channel leaves of a serving station: ticks are those of the burst, with the k + 1 quiet ones after it
+pub record HeardCommand (k : ℕ) (station : StationData) (starts : Bool) (loads : List TimedLoad) (outside : List OutsideTake) (past ticks : List Pair)
+    (c : Channel) (burst : Burst) : Type 0 where
+  -- its controller is as it was
+  pub course : course_after k station starts loads outside (ticks ++ past) ≡ course_after k station starts loads outside past
+  -- the last command in the burst that is for its terminal is obeyed, with the slots after it, k ticks after the end
+  pub obeyed : (order : Order) → last_order station.terminal.address burst.slots ≡ Some order →
+      let s : Standing = standing_after k station.terminal loads (hearing_after k station starts loads outside past) in
+      let o : Obeyed = obeyed_in station.terminal loads (end_of burst + k) s c order (rest_of burst)
+      (has_items (course_after k station starts loads outside past).left) in
+      (slot_end : ℕ)
+      × (standing_after k station.terminal loads (hearing_after k station starts loads outside (ticks ++ past)) ≡ after_command s c (end_of burst) slot_end o)
+      × (took_now k station.terminal loads (hearing_after k station starts loads outside (ticks ++ past)) ≡ o.taken)
+  -- and without one nothing changes
+  pub passed : last_order station.terminal.address burst.slots ≡ None →
+      (standing_after k station.terminal loads (hearing_after k station starts loads outside (ticks ++ past))
+      ≡ standing_after k station.terminal loads (hearing_after k station starts loads outside past))
+      × (took_now k station.terminal loads (hearing_after k station starts loads outside (ticks ++ past)) ≡ None)
+
+-- what it leaves of the station in control, whose message this is
+pub record SentCommand (k : ℕ) (station : StationData) (starts : Bool) (loads : List TimedLoad) (outside : List OutsideTake) (past ticks : List Pair)
+    (begun : Begun) (burst : Burst) : Type 0 where
+  -- a message without an answer ends Sent
+  pub sent : (answers_of begun.entry.item.kind).first ≡ None → course_after k station starts loads outside (ticks ++ past)
+      ≡ close (course_after k station starts loads outside past) begun (without_words Sent None None) (end_of burst + k)
+  -- another runs, and waits for its first answer
+  pub waits : (shape : Shape) → (answers_of begun.entry.item.kind).first ≡ Some shape →
+      (course_after k station starts loads outside (ticks ++ past) ≡ with_running (course_after k station starts loads outside past) begun)
+      × AwaitsFirst k begun (on_channel begun.state.channel (ticks ++ past)) (end_of burst)
