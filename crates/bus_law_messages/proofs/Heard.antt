@@ -202,6 +202,7 @@ module _ (k : ℕ) (station : StationData) (starts : Bool) (loads : List TimedLo
 
   pub heard-command : HeardCommand k station starts loads outside past (x ∷ ticks) c burst
   heard-command = record {
+    hears = end-hearing;
     course = serving-same k station starts loads outside past (x ∷ ticks) serving.serves took-nothing;
     obeyed = λ order last.
         let s = standing_after k t loads hearing in

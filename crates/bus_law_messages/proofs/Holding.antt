@@ -27,7 +27,7 @@ module _ (k : ℕ) (station : StationData) (starts : Bool) (loads : List TimedLo
   begun = message_begun (course_after k station starts loads outside past) entry (length past)
 
   -- its course in these ticks
-  abbrev later_course : List Pair → Course
+  abbrev pub later_course : List Pair → Course
   later_course ticks = course k station starts (so_far k station starts loads outside past).takes (ticks ++ past)
 
   pub still-holds : (ticks : List Pair) → ShowsBurst k begun.state.channel past ticks → (later_course ticks).holds ≡ true

@@ -3,3 +3,5 @@ pub mod Holding
 pub mod Sending
 pub mod Quieting
 pub mod Heard
+pub mod Closing
+pub mod Over

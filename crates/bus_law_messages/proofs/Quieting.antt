@@ -76,13 +76,13 @@ module _ (k : ℕ) (plan : PlanData) (loads : List TimedLoad) (outside : List Ou
   abbrev Ends : ℕ → ℕ → List Pair → List (List Drive) → List (List Drive) → Type 0
   Ends n j ticks sent silent = CommandEnds k plan loads outside absent before begun hits n j ticks sent silent
 
-  abbrev now : List Pair → List Drive
+  abbrev pub now : List Pair → List Drive
   now ticks = drives_after k plan loads outside absent (ticks ++ before.shown)
 
   abbrev Stays : ℕ → Type 0
   Stays n = NoneTakes k plan loads outside place (length before.shown) (length before.shown + n)
 
-  ends-leg : (n j : ℕ) (ticks : List Pair) (sent silent : List (List Drive)) → j ≤ k → Ends n j ticks sent silent → InLeg k (on_channel c ticks)
+  pub ends-leg : (n j : ℕ) (ticks : List Pair) (sent silent : List (List Drive)) → j ≤ k → Ends n j ticks sent silent → InLeg k (on_channel c ticks)
   ends-leg n j ticks sent silent few so =
       subst (λ xs. InLeg k xs) (sym so.shown) (leg-sent k hits words (40 * length words) j whole.heard (omega (arith, some)) (omega arith) few)
 
@@ -115,11 +115,11 @@ module _ (k : ℕ) (plan : PlanData) (loads : List TimedLoad) (outside : List Ou
     | inr apart ↦ others-silent n j ticks sent silent few stays so station apart
   ]
 
-  abbrev pair : List Pair → List (List Drive) → List (List Drive) → Pair
+  abbrev pub pair : List Pair → List (List Drive) → List (List Drive) → Pair
   pair ticks sent silent = shown plan.faults ((now ticks ∷ silent) ++ (sent ++ before.driven))
 
   -- one quiet tick more
-  quiet-more : (n j : ℕ) (ticks : List Pair) (sent silent : List (List Drive)) → 40 * length words ≤ n → j ≤ k → Stays n → Ends n j ticks sent silent →
+  pub quiet-more : (n j : ℕ) (ticks : List Pair) (sent silent : List (List Drive)) → 40 * length words ≤ n → j ≤ k → Stays n → Ends n j ticks sent silent →
       Ends (suc n) (suc j) (pair ticks sent silent ∷ ticks) sent (now ticks ∷ silent)
   unfolding ticks_on
   quiet-more n j ticks sent silent past few stays so =

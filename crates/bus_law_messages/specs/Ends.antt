@@ -1,5 +1,5 @@
 -- The end of a command: the quiet ticks in which it becomes known, and what the stations make of it then.
-use Rattle.std.specs.Prelude.{◌≡◌, ℕ, ◌+◌, ◌*◌, Bool, List, ◌++◌, length, Some, None}
+use Rattle.std.specs.Prelude.{◌≡◌, ◌≢◌, ℕ, suc, ◌+◌, ◌*◌, Bool, true, List, ◌++◌, length, slice_get, Some, None}
 use Rattle.bus_base.specs.Samples.{other_of}
 use Rattle.bus_base.specs.declared.samples.Channel.{Channel}
 use Rattle.bus_base.specs.declared.samples.Drive.{Drive}
@@ -13,19 +13,21 @@ use Rattle.bus_formats.specs.declared.fault.Hit.{Hit}
 use Rattle.bus_formats.specs.declared.form.Outcome.TheVariants.{Sent}
 use Rattle.bus_formats.specs.declared.form.Shape.{Shape}
 use Rattle.bus_model.specs.Memory.{TimedLoad}
-use Rattle.bus_model.specs.Orders.{Obeyed, Order, last_order}
+use Rattle.bus_model.specs.Orders.{Obeyed, free, Order, last_order}
 use Rattle.bus_model.specs.Standing.{Standing}
 use Rattle.bus_model.specs.Terminal.{standing_after, took_now}
-use Rattle.bus_model.specs.Starts.{has_items}
+use Rattle.bus_model.specs.Starts.{has_items, starts}
 use Rattle.bus_model.specs.Attempts.{Begun, without_words}
 use Rattle.bus_model.specs.Course.{Course, close}
 use Rattle.bus_model.specs.Control.{OutsideTake, course_after, hearing_after}
-use Rattle.bus_model.specs.World.{Trace, ticks_on}
+use Rattle.bus_model.specs.World.{Trace, is_present, ticks_on}
 use Rattle.bus_law_line.specs.Shown.{struck_spelling, slots_shown}
-use Rattle.bus_law_line.specs.Senders.{LeftAlone}
+use Rattle.bus_law_line.specs.Senders.{SentAlone, LeftAlone}
 use Rattle.bus_law_stations.specs.Silence.{AwaitsFirst}
 use Rattle.bus_law_stations.specs.Legs.{obeyed_in, after_command}
 use Rattle.bus_law_stations.specs.Messages.{with_running}
+use Rattle.bus_law_stations.specs.Turns.{moments_of}
+use Rattle.bus_law_messages.specs.Commands.{command_sender}
 
 -- the burst that words make, sent from this tick on, as these hits strike them
 abbrev pub burst_sent : ℕ → List Hit → List Word → Burst
@@ -48,6 +50,11 @@ pub record CommandEnds (k : ℕ) (plan : PlanData) (loads : List TimedLoad) (out
 -- what the end of this burst on a channel leaves of a serving station: ticks are those of the burst, with the k + 1 quiet ones after it
 pub record HeardCommand (k : ℕ) (station : StationData) (starts : Bool) (loads : List TimedLoad) (outside : List OutsideTake) (past ticks : List Pair)
     (c : Channel) (burst : Burst) : Type 0 where
+  -- its terminal heard these ticks
+  pub hears : hearing_after k station starts loads outside (ticks ++ past) ≡ record {
+    memory = (hearing_after k station starts loads outside past).memory;
+    ticks = moments_of (course_after k station starts loads outside past) ticks ++ (hearing_after k station starts loads outside past).ticks;
+  }
   -- its controller is as it was
   pub course : course_after k station starts loads outside (ticks ++ past) ≡ course_after k station starts loads outside past
   -- the last command in the burst that is for its terminal is obeyed, with the slots after it, k ticks after the end
@@ -74,3 +81,27 @@ pub record SentCommand (k : ℕ) (station : StationData) (starts : Bool) (loads 
   pub waits : (shape : Shape) → (answers_of begun.entry.item.kind).first ≡ Some shape →
       (course_after k station starts loads outside (ticks ++ past) ≡ with_running (course_after k station starts loads outside past) begun)
       × AwaitsFirst k begun (on_channel begun.state.channel (ticks ++ past)) (end_of burst)
+
+-- the command of a message, its end known, as the world shows it and each station heard it: in 40 ticks a word, and k + 1 more
+pub record CommandOver (k : ℕ) (plan : PlanData) (loads : List TimedLoad) (outside : List OutsideTake) (absent : List ℕ) (before : Trace) (place : ℕ)
+    (holder : StationData) (begun : Begun) (hits : List Hit) (ticks : List Pair) (sent silent : List (List Drive)) : Type 0 where
+  -- the station in control sent it alone, and nobody drove a channel after it
+  pub alone : SentAlone plan.faults (command_sender place begun) hits before.driven sent
+  pub long : length sent ≡ 40 * length (command_words begun.entry.item.kind)
+  pub ends : CommandEnds k plan loads outside absent before begun hits (40 * length (command_words begun.entry.item.kind) + suc k) (suc k) ticks sent silent
+  -- the station in control ended the message, or waits for its answer
+  pub controls : SentCommand k holder (starts plan holder) loads outside before.shown ticks begun
+      (burst_sent begun.start hits (command_words begun.entry.item.kind))
+  -- and every other one obeyed what it heard, or passed over it
+  pub others : (other : ℕ) (station : StationData) → slice_get plan.stations other ≡ Some station → other ≢ place → is_present absent station ≡ true →
+      HeardCommand k station (starts plan station) loads outside before.shown ticks begun.state.channel
+      (burst_sent begun.start hits (command_words begun.entry.item.kind))
+
+-- no terminal owes or promises anything to this burst, which ends on a channel after what was shown
+abbrev pub IsUnanswered : ℕ → PlanData → List TimedLoad → List OutsideTake → List ℕ → List Pair → ℕ → Channel → Burst → Type 0
+IsUnanswered k plan loads outside absent past place c burst =
+    (other : ℕ) (station : StationData) → slice_get plan.stations other ≡ Some station → other ≢ place → is_present absent station ≡ true →
+    (order : Order) → last_order station.terminal.address burst.slots ≡ Some order →
+    (obeyed_in station.terminal loads (end_of burst + k)
+    (standing_after k station.terminal loads (hearing_after k station (starts plan station) loads outside past)) c order (rest_of burst)
+    (has_items (course_after k station (starts plan station) loads outside past).left)).duty ≡ free

@@ -4,4 +4,4 @@
 
 pub mod commands;
 
-pub use commands::a_command_is_sent_alone;
+pub use commands::{a_command_is_sent_alone, a_sent_command_is_heard};

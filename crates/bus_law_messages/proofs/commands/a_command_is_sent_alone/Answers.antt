@@ -1,6 +1,4 @@
 use Rattle.bus_law_messages.proofs.Sending.{sent-at}
-use Rattle.bus_law_messages.proofs.Quieting.{then-quiet}
-use Rattle.bus_law_messages.proofs.Heard.{heard-command}
 use Rattle.bus_law_messages.proofs.commands.a_command_is_sent_alone.Goals as goal
 
 pub returns : goal.returns
