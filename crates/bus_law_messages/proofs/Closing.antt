@@ -24,7 +24,7 @@ use Rattle.bus_law_messages.specs.Settled.{InControl}
 use Rattle.bus_law_messages.specs.Ends.{SentCommand}
 use Rattle.bus_law_messages.proofs.Holding.{still-holds, keeps-control, later_course}
 
-and-not : (b : Bool) → (b && false) ≡ false
+pub and-not : (b : Bool) → (b && false) ≡ false
 and-not true = refl
 and-not false = refl
 

@@ -5,3 +5,4 @@ pub mod Quieting
 pub mod Heard
 pub mod Closing
 pub mod Over
+pub mod Unanswered

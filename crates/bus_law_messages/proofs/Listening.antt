@@ -76,7 +76,7 @@ over-silent k t past s (owes words acceptance) over =
     (drive_sample s.channel s.part words (length past - due_after t s.end))
     (last-of (nat_lt (length past) (due_after t s.end)) (given_up k t past s) (is_over k t past s) (over refl))
 
-over-later : (k : ℕ) (later past : List Sample) (a : ℕ) → is_some (end_since k past a) ≡ true → is_some (end_since k (later ++ past) a) ≡ true
+pub over-later : (k : ℕ) (later past : List Sample) (a : ℕ) → is_some (end_since k past a) ≡ true → is_some (end_since k (later ++ past) a) ≡ true
 over-later k later past a over = elim (cases-option (end_since k past a)) [
   | inl none ↦ absurd (true≢false (sym over ∙ ap is_some none))
   | inr found ↦ ap is_some (end_since-later k later past a found.0 found.1)

@@ -11,6 +11,8 @@ use Rattle.bus_line.proofs.ChannelLaws.{length-on, on-append}
 use Rattle.bus_formats.specs.Forms.{command_words}
 use Rattle.bus_formats.specs.Plans.{StationData, PlanData}
 use Rattle.bus_formats.specs.declared.fault.Hit.{Hit}
+use Rattle.bus_formats.specs.declared.plan.Kind.{Kind}
+use Rattle.bus_formats.specs.declared.plan.Kind.TheVariants.{Receive, Transmit, Relay, Mode}
 use Rattle.bus_model.specs.Memory.{TimedLoad}
 use Rattle.bus_model.specs.Starts.{Entry, starts}
 use Rattle.bus_model.specs.Strikes.{added_by}
@@ -101,22 +103,29 @@ module _ (k : ℕ) (plan : PlanData) (loads : List TimedLoad) (outside : List Ou
             (λ other station there apart tick low high. stays other station there apart tick low (omega (arith, high, q.1))),
       )
 
+-- a command has words
+pub some-words : (kind : Kind) → 0 < length (command_words kind)
+some-words (Receive to sub words) = omega arith
+some-words (Transmit from sub count) = omega arith
+some-words (Relay from from_sub to to_sub count) = omega arith
+some-words (Mode to mode_sub transmit code word) = omega arith
+
 -- by the number of the tick in which it starts
 over-from : (k : ℕ) (plan : PlanData) (loads : List TimedLoad) (outside : List OutsideTake) (absent : List ℕ) (before : Trace) (t place : ℕ)
     (holder : StationData) (entry : Entry) (hits : List Hit) → length before.shown ≡ t → k < 24 →
     Settled k plan loads outside absent before place holder →
     BeginsMessage (course_after k holder (starts plan holder) loads outside before.shown) before.shown entry →
     NoneTakes k plan loads outside place t (t + (40 * length (command_words entry.item.kind) + suc k)) →
-    LeavesWhole plan.faults before.driven hits (command_words entry.item.kind) → 0 < length (command_words entry.item.kind) → added_by hits ≡ 0 →
+    LeavesWhole plan.faults before.driven hits (command_words entry.item.kind) → added_by hits ≡ 0 →
     (ticks : List Pair) × (sent : List (List Drive)) × (silent : List (List Drive))
     × CommandOver k plan loads outside absent before place holder
     (message_begun (course_after k holder (starts plan holder) loads outside before.shown) entry t) hits ticks sent silent
-over-from k plan loads outside absent before t place holder entry hits long small settled begins stays whole some added =
+over-from k plan loads outside absent before t place holder entry hits long small settled begins stays whole added =
     subst (λ m. NoneTakes k plan loads outside place m (m + (40 * length (command_words entry.item.kind) + suc k)) →
     (ticks : List Pair) × (sent : List (List Drive)) × (silent : List (List Drive))
     × CommandOver k plan loads outside absent before place holder
     (message_begun (course_after k holder (starts plan holder) loads outside before.shown) entry m) hits ticks sent silent) long
-    (λ stays. command-over k plan loads outside absent before place holder entry hits small settled begins whole some added stays) stays
+    (λ stays. command-over k plan loads outside absent before place holder entry hits small settled begins whole (some-words entry.item.kind) added stays) stays
 
 pub over-at : (k : ℕ) (plan : PlanData) (loads : List TimedLoad) (outside : List OutsideTake) (absent : List ℕ) (t place : ℕ)
     (holder : StationData) (entry : Entry) (hits : List Hit) → k < 24 →
@@ -124,7 +133,7 @@ pub over-at : (k : ℕ) (plan : PlanData) (loads : List TimedLoad) (outside : Li
     Settled k plan loads outside absent before place holder →
     BeginsMessage (course_after k holder (starts plan holder) loads outside before.shown) before.shown entry →
     NoneTakes k plan loads outside place t (t + (40 * length (command_words entry.item.kind) + suc k)) →
-    LeavesWhole plan.faults before.driven hits (command_words entry.item.kind) → 0 < length (command_words entry.item.kind) → added_by hits ≡ 0 →
+    LeavesWhole plan.faults before.driven hits (command_words entry.item.kind) → added_by hits ≡ 0 →
     (ticks : List Pair) × (sent : List (List Drive)) × (silent : List (List Drive))
     × CommandOver k plan loads outside absent before place holder
     (message_begun (course_after k holder (starts plan holder) loads outside before.shown) entry t) hits ticks sent silent

@@ -1,5 +1,5 @@
 -- A moment between two messages: nothing is under way that the next message could meet.
-use Rattle.std.specs.Prelude.{◌≡◌, ◌≢◌, ℕ, ◌<◌, ◌≤◌, Bool, true, false, List, [], length, slice_get, Some}
+use Rattle.std.specs.Prelude.{◌≡◌, ◌≢◌, ℕ, ◌<◌, ◌≤◌, Bool, true, false, List, [], length, slice_get, Some, None}
 use Rattle.bus_base.specs.declared.samples.Channel.{Channel}
 use Rattle.bus_base.specs.declared.samples.Pair.{Pair}
 use Rattle.bus_line.specs.Past.{runs}
@@ -30,6 +30,7 @@ pub record IsFree (k : ℕ) (terminal : TerminalData) (s : Standing) (heard : Li
 -- a controller rests: it holds control, and no message runs; those that ended did so before tick t
 pub record InControl (c : Course) (t : ℕ) : Type 0 where
   pub holds : c.holds ≡ true
+  pub idle : c.runs ≡ None
   pub before : (tick : ℕ) → t ≤ tick → yielded_in tick c.ended ≡ false
 
 -- a station serves, and its terminal is free

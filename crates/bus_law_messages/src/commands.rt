@@ -43,6 +43,6 @@ pub fn a_sent_command_is_heard()
         let begun : Begun = message_begun c entry t in let words : List Word = command_words entry.item.kind in
         Settled k plan loads outside absent before place holder → BeginsMessage c before.shown entry →
         NoneTakes k plan loads outside place t (t + (40 * length words + suc k)) → LeavesWhole plan.faults before.driven hits words →
-        0 < length words → added_by hits ≡ 0 → (ticks : List Pair) × (sent : List (List Drive)) × (silent : List (List Drive))
+        added_by hits ≡ 0 → (ticks : List Pair) × (sent : List (List Drive)) × (silent : List (List Drive))
         × CommandOver k plan loads outside absent before place holder begun hits ticks sent silent }
 {}

@@ -3,5 +3,7 @@
 #![tactic(auto)]
 
 pub mod commands;
+pub mod shapes;
 
 pub use commands::{a_command_is_sent_alone, a_sent_command_is_heard};
+pub use shapes::a_message_without_answer_is_sent;

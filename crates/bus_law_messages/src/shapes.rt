@@ -1,0 +1,40 @@
+//! The shape of a message: all that the world shows of it, from a settled moment to the next. Laws alone, each the contract of an empty function.
+
+ghost use Rattle.std.specs.Prelude.{◌≡◌, ℕ, suc, ◌+◌, ◌*◌, ◌<◌, List, ◌++◌, length, None};
+ghost use Rattle.bus_base.specs.declared.samples.Drive.{Drive};
+ghost use Rattle.bus_base.specs.declared.samples.Pair.{Pair};
+ghost use Rattle.bus_words.specs.declared.word.Word.{Word};
+ghost use Rattle.bus_formats.specs.Forms.{answers_of, command_words};
+ghost use Rattle.bus_formats.specs.Plans.{StationData, PlanData};
+ghost use Rattle.bus_formats.specs.declared.fault.Hit.{Hit};
+ghost use Rattle.bus_formats.specs.declared.form.Outcome.TheVariants.{Sent};
+ghost use Rattle.bus_model.specs.Memory.{TimedLoad};
+ghost use Rattle.bus_model.specs.Starts.{Entry, starts};
+ghost use Rattle.bus_model.specs.Strikes.{added_by};
+ghost use Rattle.bus_model.specs.Attempts.{Begun, without_words};
+ghost use Rattle.bus_model.specs.Course.{Course, close};
+ghost use Rattle.bus_model.specs.Control.{OutsideTake, course_after};
+ghost use Rattle.bus_model.specs.World.{Trace, trace};
+ghost use Rattle.bus_law_stations.specs.Messages.{BeginsMessage, message_begun};
+ghost use Rattle.bus_law_messages.specs.Settled.{Settled, NoneTakes};
+ghost use Rattle.bus_law_messages.specs.Commands.{LeavesWhole};
+ghost use Rattle.bus_law_messages.specs.Ends.{burst_sent, CommandOver, IsUnanswered};
+
+/// A message that expects no answer, and that no terminal answers, as a broadcast: its command is shown alone, every other station obeys it or passes
+/// over it, and k ticks after the command's end the message ends Sent; the world is settled again, in the same hands. At every lag below the wait for
+/// an answer, for any loads, with any stations absent.
+pub fn a_message_without_answer_is_sent()
+    ensures { (k : ℕ) (plan : PlanData) (loads : List TimedLoad) (outside : List OutsideTake) (absent : List ℕ) (t place : ℕ) (holder : StationData)
+        (entry : Entry) (hits : List Hit) → k < 24 → let before : Trace = trace k plan loads outside absent t in
+        let c : Course = course_after k holder (starts plan holder) loads outside before.shown in
+        let begun : Begun = message_begun c entry t in let words : List Word = command_words entry.item.kind in
+        let after : Trace = trace k plan loads outside absent (t + (40 * length words + suc k)) in
+        Settled k plan loads outside absent before place holder → BeginsMessage c before.shown entry → (answers_of entry.item.kind).first ≡ None →
+        NoneTakes k plan loads outside place t (t + (40 * length words + suc k)) → LeavesWhole plan.faults before.driven hits words → added_by hits ≡ 0 →
+        IsUnanswered k plan loads outside absent before.shown place begun.state.channel (burst_sent t hits words) →
+        (ticks : List Pair) × (sent : List (List Drive)) × (silent : List (List Drive))
+        × CommandOver k plan loads outside absent before place holder begun hits ticks sent silent
+        × (after ≡ record { shown = ticks ++ before.shown; driven = silent ++ (sent ++ before.driven) })
+        × Settled k plan loads outside absent after place holder
+        × (course_after k holder (starts plan holder) loads outside after.shown ≡ close c begun (without_words Sent None None) (t + 40 * length words + k)) }
+{}
