@@ -1,9 +1,8 @@
 -- The station in control where the end of its command becomes known: the message ends Sent, or waits for its first answer.
-use Rattle.std.proofs.Common.{◌≡◌, ◌⊎◌, inl, inr, ℕ, suc, ◌+◌, ◌*◌, ◌<◌, ◌≤◌, Bool, true, false, List, [], ◌∷◌, ◌++◌, length, Option, Some, None, refl, sym, ap, ◌∙◌, arith, length-append}
+use Rattle.std.proofs.Common.{◌≡◌, inl, inr, ℕ, ◌+◌, ◌<◌, Bool, true, false, List, ◌∷◌, ◌++◌, length, Some, None, refl, ap, ◌∙◌, arith, length-append}
 use Rattle.std.specs.Prelude.{◌&&◌, ◌==◌}
-use Rattle.bus_base.specs.declared.samples.Channel.{Channel}
 use Rattle.bus_base.specs.declared.samples.Pair.{Pair}
-use Rattle.bus_line.specs.Past.{Burst, InLeg, ended_now, end_of}
+use Rattle.bus_line.specs.Past.{Burst, ended_now, end_of}
 use Rattle.bus_line.specs.Channels.{on_channel}
 use Rattle.bus_formats.specs.Forms.{answers_of}
 use Rattle.bus_formats.specs.Plans.{StationData}
@@ -12,7 +11,7 @@ use Rattle.bus_formats.specs.declared.form.Shape.{Shape}
 use Rattle.bus_model.specs.Memory.{TimedLoad}
 use Rattle.bus_model.specs.Starts.{Entry}
 use Rattle.bus_model.specs.Attempts.{Begun, without_words}
-use Rattle.bus_model.specs.Course.{Course, course, close}
+use Rattle.bus_model.specs.Course.{Course, close}
 use Rattle.bus_model.specs.Control.{OutsideTake, yielded_in, so_far, course_after}
 use Rattle.bus_law_stations.specs.Messages.{BeginsMessage, message_begun, with_running, ShowsBurst}
 use Rattle.bus_law_stations.specs.Turns.{KeepsControl}

@@ -1,6 +1,5 @@
 -- A serving station, free before, where the end of another station's burst becomes known: its terminal obeys it or passes it over.
-use Rattle.std.proofs.Common.{◌≡◌, ◌⊎◌, inl, inr, ℕ, suc, ◌+◌, ◌*◌, ◌<◌, ◌≤◌, Bool, true, false, List, [], ◌∷◌, ◌++◌, length, Option, Some, None, refl, sym, ap, ◌∙◌, subst, arith, length-append}
-use Rattle.std.proofs.lemmas.Bool.{true≢false}
+use Rattle.std.proofs.Common.{◌≡◌, inl, inr, ℕ, suc, ◌+◌, ◌*◌, ◌<◌, ◌≤◌, Bool, true, false, List, [], ◌∷◌, ◌++◌, length, Option, Some, None, refl, sym, ap, ◌∙◌, arith, length-append}
 use Rattle.std.proofs.lemmas.Bool.Decides.{nat_tests}
 use Rattle.std.proofs.lemmas.List.{append_assoc}
 use Rattle.std.proofs.lemmas.Option.{none-some, same_Some}
@@ -10,7 +9,7 @@ use Rattle.bus_base.specs.declared.samples.Channel.{Channel}
 use Rattle.bus_base.specs.declared.samples.Pair.{Pair}
 use Rattle.bus_base.specs.declared.samples.Sample.{Sample}
 use Rattle.bus_words.specs.declared.word.Word.{Word}
-use Rattle.bus_line.specs.Past.{Burst, InLeg, quiet_ticks, runs, ended_now, end_of, rest_of, burst_from}
+use Rattle.bus_line.specs.Past.{Burst, InLeg, quiet_ticks, runs, ended_now, end_of, rest_of}
 use Rattle.bus_line.specs.Channels.{on_channel}
 use Rattle.bus_formats.specs.Plans.{TerminalData, StationData}
 use Rattle.bus_formats.specs.declared.fault.Hit.{Hit}
@@ -23,7 +22,7 @@ use Rattle.bus_model.specs.Starts.{has_items}
 use Rattle.bus_model.specs.Terminal.{given_up, standing, standing_after, took_now, accepted_by, accepted_on, accepted_now, heard_status}
 use Rattle.bus_model.specs.Course.{Take, Course}
 use Rattle.bus_model.specs.Control.{OutsideTake, StationSoFar, unheard_ticks, moment_of, hear_more, takes_in, taken_over, serve, hold, course_with, so_far, course_after, hearing_after, outside_takes}
-use Rattle.bus_law_line.specs.Shown.{struck_of, struck_spelling, slots_shown}
+use Rattle.bus_law_line.specs.Shown.{struck_of, struck_spelling}
 use Rattle.bus_law_line.specs.Senders.{AreHeard}
 use Rattle.bus_law_line.proofs.Rows.{ended-row}
 use Rattle.bus_law_line.proofs.WordSlots.{slots-sent}

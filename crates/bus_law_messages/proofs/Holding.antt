@@ -1,10 +1,7 @@
 -- A station in control while it sends the command of a message: it keeps control, and its controller's samples are what it drives.
-use Rattle.std.proofs.Common.{◌≡◌, ℕ, suc, ◌+◌, ◌≤◌, Bool, true, false, List, [], ◌∷◌, ◌++◌, length, refl, sym, ap, ◌∙◌, arith, length-append}
-use Rattle.bus_base.specs.declared.samples.Channel.{Channel}
+use Rattle.std.proofs.Common.{◌≡◌, ℕ, ◌+◌, ◌≤◌, Bool, true, false, List, [], ◌∷◌, ◌++◌, length, ap, ◌∙◌, arith, length-append}
 use Rattle.bus_base.specs.declared.samples.Pair.{Pair}
 use Rattle.bus_base.specs.declared.samples.Part.TheVariants.{Command}
-use Rattle.bus_line.specs.Past.{InLeg, runs}
-use Rattle.bus_line.specs.Channels.{on_channel}
 use Rattle.bus_formats.specs.Forms.{command_words}
 use Rattle.bus_formats.specs.Plans.{StationData}
 use Rattle.bus_model.specs.Memory.{TimedLoad}

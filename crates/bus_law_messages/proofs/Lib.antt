@@ -6,3 +6,5 @@ pub mod Heard
 pub mod Closing
 pub mod Over
 pub mod Unanswered
+pub mod Pausing
+pub mod Beginning

@@ -1,6 +1,6 @@
 -- A serving station, free before, while a burst of another station runs on one channel and the other is quiet: it sends nothing, and no control
 -- passes to it.
-use Rattle.std.proofs.Common.{◌≡◌, ◌⊎◌, inl, inr, ℕ, suc, ◌+◌, ◌-◌, ◌<◌, ◌≤◌, Bool, true, false, List, [], ◌∷◌, ◌++◌, length, Option, Some, None, refl, sym, ap, ◌∙◌, arith, length-append}
+use Rattle.std.proofs.Common.{◌≡◌, ◌⊎◌, inl, inr, ℕ, suc, ◌+◌, ◌-◌, ◌<◌, ◌≤◌, Bool, true, false, List, [], ◌∷◌, ◌++◌, length, Option, None, refl, sym, ap, ◌∙◌, arith, length-append}
 use Rattle.std.proofs.lemmas.Bool.{true≢false}
 use Rattle.std.specs.Prelude.{◌||◌, nat_lt, if◌then◌else◌, is_some, get_or, drop}
 use Rattle.bus_base.specs.Samples.{sample_on, other_of}
@@ -22,12 +22,12 @@ use Rattle.bus_model.specs.Sending.{drive_sample}
 use Rattle.bus_model.specs.Standing.{Standing, is_owed}
 use Rattle.bus_model.specs.Terminal.{given_up, is_over, drive_duty, standing, drives, accepted_by, accepted_on, accepted_now, heard_status}
 use Rattle.bus_model.specs.Course.{Course}
-use Rattle.bus_model.specs.Control.{OutsideTake, moment_of, outside_takes, so_far, course_after, hearing_after, drives_next}
+use Rattle.bus_model.specs.Control.{OutsideTake, moment_of, outside_takes, course_after, hearing_after, drives_next}
 use Rattle.bus_law_stations.specs.Legs.{with_addressed, HearsBurst, IsReady}
-use Rattle.bus_law_stations.specs.Turns.{moments_of, TakesNothing, Serves}
+use Rattle.bus_law_stations.specs.Turns.{moments_of, TakesNothing}
 use Rattle.bus_law_stations.proofs.Resting.{heard-long, rests-quiet, ended-quiet, over-late, cases-option}
 use Rattle.bus_law_stations.proofs.LegTicks.{heard-append, leg-ends-not}
-use Rattle.bus_law_stations.proofs.Obeying.{running-marks, running-silent}
+use Rattle.bus_law_stations.proofs.Obeying.{running-marks}
 use Rattle.bus_law_stations.proofs.Turning.{serving-sends}
 use Rattle.bus_law_stations.proofs.Unheeded.{quiet-unheeded}
 use Rattle.bus_law_messages.specs.Settled.{IsFree, IsServing}

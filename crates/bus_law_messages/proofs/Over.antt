@@ -1,11 +1,10 @@
 -- A command whose end is known: what the world showed of it, and what all stations made of it.
-use Rattle.std.proofs.Common.{◌≡◌, ◌≢◌, ℕ, suc, ◌+◌, ◌*◌, ◌<◌, ◌≤◌, Bool, true, false, List, [], ◌∷◌, ◌++◌, length, Option, Some, None, refl, sym, ap, ◌∙◌, subst, arith, length-append}
-use Rattle.bus_base.specs.Samples.{other_of}
+use Rattle.std.proofs.Common.{◌≡◌, ℕ, suc, ◌+◌, ◌*◌, ◌<◌, List, ◌∷◌, ◌++◌, length, Some, refl, sym, ap, ◌∙◌, subst, arith, length-append}
 use Rattle.bus_base.specs.declared.samples.Channel.{Channel}
 use Rattle.bus_base.specs.declared.samples.Drive.{Drive}
 use Rattle.bus_base.specs.declared.samples.Pair.{Pair}
 use Rattle.bus_words.specs.declared.word.Word.{Word}
-use Rattle.bus_line.specs.Past.{Burst, quiet_ticks, ended_now, end_of}
+use Rattle.bus_line.specs.Past.{Burst, quiet_ticks, ended_now}
 use Rattle.bus_line.specs.Channels.{on_channel}
 use Rattle.bus_line.proofs.ChannelLaws.{length-on, on-append}
 use Rattle.bus_formats.specs.Forms.{command_words}

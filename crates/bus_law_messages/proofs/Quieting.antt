@@ -1,5 +1,5 @@
 -- The world after the last sample of a command: nobody drives, and both channels are quiet, until the end of the command is known.
-use Rattle.std.proofs.Common.{◌≡◌, ℕ, zero, suc, ◌+◌, ◌*◌, ◌<◌, ◌≤◌, Bool, true, false, List, [], ◌∷◌, ◌++◌, length, Option, Some, None, inl, inr, refl, sym, ap, ◌∙◌, subst, arith, ◌≢◌}
+use Rattle.std.proofs.Common.{◌≡◌, ℕ, zero, suc, ◌+◌, ◌*◌, ◌<◌, ◌≤◌, Bool, List, [], ◌∷◌, ◌++◌, length, Some, inl, inr, refl, sym, ap, ◌∙◌, subst, arith, ◌≢◌}
 use Rattle.std.proofs.lemmas.Bool.{cases_eq}
 use Rattle.std.proofs.lemmas.Option.{slice_get-map}
 use Rattle.std.specs.Prelude.{if◌then◌else◌, slice_get}
@@ -20,7 +20,6 @@ use Rattle.bus_formats.specs.Plans.{StationData, PlanData}
 use Rattle.bus_formats.specs.declared.fault.Fault.{Fault}
 use Rattle.bus_formats.specs.declared.fault.Hit.{Hit}
 use Rattle.bus_model.specs.Memory.{TimedLoad}
-use Rattle.bus_model.specs.Sending.{drive_sample}
 use Rattle.bus_model.specs.Starts.{Entry, starts}
 use Rattle.bus_model.specs.Strikes.{added_by}
 use Rattle.bus_model.specs.Transmissions.{drives_on, drive_or, station_drive}
@@ -28,7 +27,7 @@ use Rattle.bus_model.specs.Attempts.{Begun}
 use Rattle.bus_model.specs.Control.{OutsideTake, course_after, drives_next}
 use Rattle.bus_model.specs.Wire.{samples_on, shown}
 use Rattle.bus_model.specs.World.{Trace, is_present, drive_after, drives_after, next_tick, ticks_on}
-use Rattle.bus_law_line.specs.Shown.{struck_spelling, shown_of}
+use Rattle.bus_law_line.specs.Shown.{struck_spelling}
 use Rattle.bus_law_line.specs.Senders.{Sender, IsSpent, LeftAlone, SentAlone}
 use Rattle.bus_law_line.proofs.Sent.{all-spent, left-undriven, left-spent, drives-nothing}
 use Rattle.bus_law_line.proofs.WordSlots.{leg-sent}
@@ -162,6 +161,10 @@ module _ (k : ℕ) (plan : PlanData) (loads : List TimedLoad) (outside : List Ou
   then-quiet n (suc j) ticks sent all so few stays =
       let less : Stays (n + j) = λ other station there apart tick low high. stays other station there apart tick low (omega (arith, high)) in
       let q = then-quiet n j ticks sent all so (omega (arith, few)) less in
-      let here : Stays q.0 = λ other station there apart tick low high. stays other station there apart tick low (omega (arith, high, q.1)) in
-      (suc q.0, omega (arith, q.1), pair q.2 sent q.3 ∷ q.2, now q.2 ∷ q.3,
-      quiet-more q.0 j q.2 sent q.3 (omega (arith, q.1, all)) (omega (arith, few)) here q.4)
+      let here : Stays q.0 = λ other station there apart tick low high. stays other station there apart tick low (omega (arith, high, q.1)) in (
+        suc q.0,
+        omega (arith, q.1),
+        pair q.2 sent q.3 ∷ q.2,
+        now q.2 ∷ q.3,
+        quiet-more q.0 j q.2 sent q.3 (omega (arith, q.1, all)) (omega (arith, few)) here q.4,
+      )

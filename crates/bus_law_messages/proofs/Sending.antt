@@ -1,5 +1,5 @@
 -- The world while the station in control sends its command: one tick more, and all ticks.
-use Rattle.std.proofs.Common.{◌≡◌, ◌≢◌, ℕ, zero, suc, ◌+◌, ◌*◌, ◌<◌, ◌≤◌, Bool, true, false, List, [], ◌∷◌, ◌++◌, length, map, Option, Some, None, inl, inr, refl, sym, ap, ◌∙◌, subst, arith, option_map}
+use Rattle.std.proofs.Common.{◌≡◌, ◌≢◌, ℕ, zero, suc, ◌+◌, ◌*◌, ◌<◌, ◌≤◌, Bool, true, false, List, [], ◌∷◌, ◌++◌, length, Option, Some, None, inl, inr, refl, sym, ap, ◌∙◌, subst, arith, option_map}
 use Rattle.std.proofs.lemmas.Bool.{cases_eq}
 use Rattle.std.proofs.lemmas.Option.{slice_get-map}
 use Rattle.std.specs.Prelude.{if◌then◌else◌, slice_get, ◌==◌, ◌/◌, ◌%◌}
@@ -32,7 +32,7 @@ use Rattle.bus_law_line.specs.Shown.{struck_of, struck_spelling, shown_of}
 use Rattle.bus_law_line.specs.Senders.{Sender, AreHeard, drives_command, IsUndriven, LeftAlone, SendsAlone, SentAlone}
 use Rattle.bus_law_line.proofs.Sent.{one-sample, left-undriven}
 use Rattle.bus_law_line.proofs.WordSlots.{leg-sent}
-use Rattle.bus_law_stations.specs.Messages.{BeginsMessage, message_begun, ShowsBurst}
+use Rattle.bus_law_stations.specs.Messages.{BeginsMessage, message_begun}
 use Rattle.bus_law_messages.specs.Settled.{Settled, NoneTakes}
 use Rattle.bus_law_messages.specs.Commands.{command_sender, LeavesWhole, CommandSent}
 use Rattle.bus_law_messages.proofs.Listening.{serving-silent}

@@ -1,24 +1,20 @@
 -- After a command that nobody answers the world is settled again.
-use Rattle.std.proofs.Common.{◌≡◌, ◌≢◌, ◌⊎◌, inl, inr, ℕ, zero, suc, ◌+◌, ◌*◌, ◌<◌, ◌≤◌, Bool, true, false, List, [], ◌∷◌, ◌++◌, length, Option, Some, None, refl, sym, ap, ◌∙◌, subst, arith, length-append}
+use Rattle.std.proofs.Common.{◌≡◌, inl, inr, ℕ, zero, suc, ◌+◌, ◌*◌, ◌<◌, ◌≤◌, Bool, false, List, [], ◌∷◌, ◌++◌, length, Some, None, refl, sym, ap, ◌∙◌, subst, arith}
 use Rattle.std.proofs.lemmas.Bool.{true≢false}
 use Rattle.std.proofs.lemmas.Bool.Decides.{nat_tests}
 use Rattle.std.proofs.lemmas.List.{append_assoc}
-use Rattle.std.specs.Prelude.{◌&&◌, ◌==◌, nat_lt, nat_le, is_some}
-use Rattle.bus_base.specs.Samples.{sample_on, other_of}
+use Rattle.std.specs.Prelude.{◌==◌, is_some}
 use Rattle.bus_base.specs.declared.samples.Channel.{Channel}
-use Rattle.bus_base.specs.declared.samples.Channel.TheVariants.{A, B}
 use Rattle.bus_base.specs.declared.samples.Drive.{Drive}
 use Rattle.bus_base.specs.declared.samples.Pair.{Pair}
 use Rattle.bus_base.specs.declared.samples.Sample.{Sample}
-use Rattle.bus_base.specs.declared.samples.Sample.TheVariants.{Quiet}
 use Rattle.bus_words.specs.declared.word.Word.{Word}
-use Rattle.bus_line.specs.Past.{Burst, end_of, rest_of, quiet_ticks, quiet, stopped, runs, end_since}
+use Rattle.bus_line.specs.Past.{Burst, end_of, rest_of, quiet_ticks, quiet, runs, end_since}
 use Rattle.bus_line.specs.Channels.{on_channel}
 use Rattle.bus_line.proofs.ChannelLaws.{on-append}
 use Rattle.bus_formats.specs.Forms.{answers_of, command_words}
 use Rattle.bus_formats.specs.Plans.{TerminalData, StationData, PlanData}
 use Rattle.bus_formats.specs.declared.form.Outcome.TheVariants.{Sent}
-use Rattle.bus_formats.specs.declared.fault.Fault.{Fault}
 use Rattle.bus_formats.specs.declared.fault.Hit.{Hit}
 use Rattle.bus_model.specs.Memory.{TimedLoad}
 use Rattle.bus_model.specs.Orders.{Obeyed, Order, last_order, due_after}
@@ -29,20 +25,20 @@ use Rattle.bus_model.specs.Starts.{Entry, starts, has_items}
 use Rattle.bus_model.specs.Terminal.{standing_after}
 use Rattle.bus_model.specs.Strikes.{added_by}
 use Rattle.bus_model.specs.Transmissions.{drives_on, station_drive, newest_drives}
-use Rattle.bus_model.specs.Attempts.{Begun, Ended, without_words}
+use Rattle.bus_model.specs.Attempts.{Begun, without_words}
 use Rattle.bus_model.specs.Course.{Course, close}
 use Rattle.bus_model.specs.Control.{OutsideTake, yielded_in, course_after, hearing_after}
-use Rattle.bus_model.specs.World.{Trace, trace, next_tick, is_present, ticks_on}
-use Rattle.bus_law_line.specs.Senders.{IsSpent, LeftAlone}
+use Rattle.bus_model.specs.World.{Trace, trace, next_tick, ticks_on}
+use Rattle.bus_law_line.specs.Senders.{LeftAlone}
 use Rattle.bus_law_line.proofs.Sent.{left-spent}
 use Rattle.bus_law_stations.specs.Legs.{obeyed_in, after_command}
-use Rattle.bus_law_stations.specs.Turns.{moments_of, Serves}
+use Rattle.bus_law_stations.specs.Turns.{moments_of}
 use Rattle.bus_law_stations.specs.Messages.{BeginsMessage, message_begun}
 use Rattle.bus_law_stations.proofs.LegTicks.{heard-append, heeded-later}
 use Rattle.bus_law_stations.proofs.Resting.{rests-quiet, cases-option}
 use Rattle.bus_law_messages.specs.Settled.{IsFree, InControl, IsServing, Settled, NoneTakes}
 use Rattle.bus_law_messages.specs.Commands.{LeavesWhole}
-use Rattle.bus_law_messages.specs.Ends.{burst_sent, HeardCommand, CommandEnds, CommandOver, IsUnanswered}
+use Rattle.bus_law_messages.specs.Ends.{burst_sent, HeardCommand, CommandOver, IsUnanswered}
 use Rattle.bus_law_messages.proofs.Closing.{and-not}
 use Rattle.bus_law_messages.proofs.Over.{over-at}
 use Rattle.bus_law_messages.proofs.Listening.{moments-shown, over-later, this-or-other}

@@ -18,7 +18,7 @@ use Rattle.bus_model.specs.Standing.{Standing}
 use Rattle.bus_model.specs.Terminal.{standing_after, took_now}
 use Rattle.bus_model.specs.Starts.{has_items, starts}
 use Rattle.bus_model.specs.Attempts.{Begun, without_words}
-use Rattle.bus_model.specs.Course.{Course, close}
+use Rattle.bus_model.specs.Course.{close}
 use Rattle.bus_model.specs.Control.{OutsideTake, course_after, hearing_after}
 use Rattle.bus_model.specs.World.{Trace, is_present, ticks_on}
 use Rattle.bus_law_line.specs.Shown.{struck_spelling, slots_shown}

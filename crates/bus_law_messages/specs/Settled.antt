@@ -1,5 +1,5 @@
 -- A moment between two messages: nothing is under way that the next message could meet.
-use Rattle.std.specs.Prelude.{◌≡◌, ◌≢◌, ℕ, ◌<◌, ◌≤◌, Bool, true, false, List, [], length, slice_get, Some, None}
+use Rattle.std.specs.Prelude.{◌≡◌, ◌≢◌, ℕ, ◌+◌, ◌<◌, ◌≤◌, Bool, true, false, List, [], ◌∷◌, length, slice_get, Some, None}
 use Rattle.bus_base.specs.declared.samples.Channel.{Channel}
 use Rattle.bus_base.specs.declared.samples.Pair.{Pair}
 use Rattle.bus_line.specs.Past.{runs}
@@ -9,10 +9,10 @@ use Rattle.bus_model.specs.Memory.{TimedLoad}
 use Rattle.bus_model.specs.Hearing.{Moment, heard_on}
 use Rattle.bus_model.specs.Standing.{mark_on, Standing, ignored_from, is_owed, is_promise}
 use Rattle.bus_model.specs.Terminal.{is_over, standing_after}
-use Rattle.bus_model.specs.Starts.{starts}
+use Rattle.bus_model.specs.Starts.{Entry, start_of, starts}
 use Rattle.bus_model.specs.Transmissions.{drives_on, station_drive, newest_drives}
 use Rattle.bus_model.specs.Control.{OutsideTake, yielded_in, outside_takes, course_after, hearing_after}
-use Rattle.bus_model.specs.Course.{Course}
+use Rattle.bus_model.specs.Course.{Course, quiet_from}
 use Rattle.bus_model.specs.World.{Trace, is_present}
 use Rattle.bus_law_line.specs.Senders.{IsSpent}
 use Rattle.bus_law_stations.specs.Turns.{Serves}
@@ -60,3 +60,8 @@ abbrev pub NoneTakes : ℕ → PlanData → List TimedLoad → List OutsideTake 
 NoneTakes k plan loads outside place a b =
     (other : ℕ) (station : StationData) → slice_get plan.stations other ≡ Some station → other ≢ place →
     (tick : ℕ) → a ≤ tick → tick < b → outside_takes k station (starts plan station) loads outside tick outside ≡ []
+
+-- no message of a controller starts in the next n ticks: c is its course, after what the channels showed
+abbrev pub NoneStarts : Course → List Pair → ℕ → Type 0
+NoneStarts c past n =
+    (entry : Entry) (later : List Entry) → c.left ≡ entry ∷ later → length past + n ≤ start_of c.opening c.retry c.origin entry (quiet_from past)

@@ -3,7 +3,9 @@
 #![tactic(auto)]
 
 pub mod commands;
+pub mod pauses;
 pub mod shapes;
 
 pub use commands::{a_command_is_sent_alone, a_sent_command_is_heard};
+pub use pauses::{the_world_begins_settled, the_world_pauses_until_a_message_starts};
 pub use shapes::a_message_without_answer_is_sent;

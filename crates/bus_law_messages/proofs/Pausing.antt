@@ -1,0 +1,254 @@
+-- Silence: from a settled moment nothing happens until the next message starts, and every moment until then is settled.
+use Rattle.std.proofs.Common.{◌≡◌, ◌≢◌, inl, inr, ℕ, zero, suc, ◌+◌, ◌-◌, ◌<◌, ◌≤◌, Bool, true, false, List, [], ◌∷◌, ◌++◌, length, Some, refl, sym, ap, ◌∙◌, subst, arith, option_map}
+use Rattle.std.proofs.lemmas.Bool.{cases_eq, true≢false}
+use Rattle.std.proofs.lemmas.Option.{slice_get-map, none-some}
+use Rattle.std.specs.Prelude.{if◌then◌else◌, not, slice_get}
+use Rattle.bus_base.specs.Samples.{sample_on, same_channel}
+use Rattle.bus_base.specs.declared.samples.Channel.{Channel}
+use Rattle.bus_base.specs.declared.samples.Channel.TheVariants.{A, B}
+use Rattle.bus_base.specs.declared.samples.Drive.{Drive}
+use Rattle.bus_base.specs.declared.samples.Drive.TheVariants.{Silent}
+use Rattle.bus_base.specs.declared.samples.Pair.{Pair}
+use Rattle.bus_base.specs.declared.samples.Sample.TheVariants.{Quiet}
+use Rattle.bus_line.specs.Past.{quiet_ticks, runs}
+use Rattle.bus_line.specs.Channels.{on_channel, quiet_both}
+use Rattle.bus_formats.specs.Plans.{StationData, PlanData}
+use Rattle.bus_formats.specs.declared.fault.Fault.{Fault}
+use Rattle.bus_model.specs.Memory.{TimedLoad}
+use Rattle.bus_model.specs.Starts.{starts}
+use Rattle.bus_model.specs.Hearing.{heard_on}
+use Rattle.bus_model.specs.Standing.{Standing, superseded, is_promise, promised_on}
+use Rattle.bus_model.specs.Terminal.{standing_after}
+use Rattle.bus_model.specs.Transmissions.{drives_on, drive_or, station_drive, newest_drives}
+use Rattle.bus_model.specs.Wire.{samples_on, shown}
+use Rattle.bus_model.specs.Course.{Course, quiet_from}
+use Rattle.bus_model.specs.Control.{OutsideTake, StationSoFar, yielded_in, outside_takes, so_far, course_after, hearing_after, drives_next}
+use Rattle.bus_model.specs.World.{Trace, trace, is_present, drive_after, drives_after, next_tick, ticks_on}
+use Rattle.bus_law_line.specs.Shown.{shown_of}
+use Rattle.bus_law_line.specs.Senders.{LeftAlone}
+use Rattle.bus_law_line.proofs.Sent.{left-spent}
+use Rattle.bus_law_stations.specs.Silence.{quiet_pair, quiet_pairs, quiet_moments, NothingStarts, StationRests}
+use Rattle.bus_law_stations.specs.Turns.{KeepsControl}
+use Rattle.bus_law_stations.proofs.Ready.{three-first}
+use Rattle.bus_law_stations.proofs.Resting.{heard-quiet, rests-quiet}
+use Rattle.bus_law_stations.proofs.StillController.{pairs-long, still-course, still-drive}
+use Rattle.bus_law_stations.proofs.StillStation.{always-taken, still-so-far, still-after, still-terminal, still-quiet}
+use Rattle.bus_law_stations.proofs.Turning.{holding-course, holding-sends}
+use Rattle.bus_law_messages.specs.Settled.{IsFree, InControl, IsServing, Settled, NoneTakes, NoneStarts}
+use Rattle.bus_law_messages.proofs.Sending.{absent-silent, silent-or, shown-long}
+use Rattle.bus_law_messages.proofs.Quieting.{quiet-pair}
+use Rattle.bus_law_messages.proofs.Unanswered.{free-still, trace-later}
+
+-- ---- channels
+
+on-quiet : (d : Channel) (n : ℕ) (past : List Pair) → on_channel d (quiet_pairs n ++ past) ≡ quiet_ticks n ++ on_channel d past
+on-quiet d zero past = refl
+on-quiet A (suc n) past = ap (λ xs. Quiet ∷ xs) (on-quiet A n past)
+on-quiet B (suc n) past = ap (λ xs. Quiet ∷ xs) (on-quiet B n past)
+
+-- both have been quiet from the same tick on
+from-quiet : (n : ℕ) (past : List Pair) → quiet_from (quiet_pairs n ++ past) ≡ quiet_from past
+from-quiet zero past = refl
+from-quiet (suc n) past =
+    let same : length (quiet_pairs n ++ past) - quiet_both (quiet_pairs n ++ past) ≡ length past - quiet_both past = from-quiet n past in omega (arith, same)
+
+quiet-shown : (faults : List Fault) (driven : List (List Drive)) → sample_on (shown faults driven) A ≡ Quiet → sample_on (shown faults driven) B ≡ Quiet →
+    shown faults driven ≡ quiet_pair
+quiet-shown faults driven a b =
+    ap (λ x. record { a = x; b = shown_of (samples_on faults B driven) }) a ∙ ap (λ x. record { a = Quiet; b = x }) b
+
+-- ---- the station in control
+
+module _ (k : ℕ) (station : StationData) (starts : Bool) (loads : List TimedLoad) (outside : List OutsideTake) (past : List Pair)
+    (controls : InControl (course_after k station starts loads outside past) (length past)) where
+  abbrev course : Course
+  course = course_after k station starts loads outside past
+
+  nothing-starts : (n : ℕ) → NoneStarts course past n → NothingStarts k course past n
+  nothing-starts n none =
+      record { waits = λ begun runs. absurd (none-some begun (sym controls.idle ∙ runs)); starts = λ idle holds entry later left. none entry later left }
+
+  fewer-start : (n : ℕ) → NoneStarts course past (suc n) → NoneStarts course past n
+  fewer-start n none = λ entry later left. let late = none entry later left in omega (arith, late)
+
+  keeps-quiet : (n : ℕ) → NoneStarts course past n → KeepsControl k station starts loads outside past (quiet_pairs n)
+  keeps-quiet zero none = tt
+  keeps-quiet (suc n) none =
+      let takes = (so_far k station starts loads outside past).takes in
+      let taken = always-taken k station starts loads outside past in
+      let long : length (quiet_pairs n ++ past) ≡ n + length past = pairs-long n past in (
+        ap (λ (c : Course). c.holds) (still-course k station starts takes past n taken (nothing-starts n (fewer-start n none))) ∙ controls.holds,
+        ap (λ (c : Course). yielded_in (length (quiet_pairs n ++ past)) c.ended)
+            (still-course k station starts takes past (suc n) taken (nothing-starts (suc n) none))
+            ∙ controls.before (length (quiet_pairs n ++ past)) (omega (arith, long)),
+        keeps-quiet n (fewer-start n none),
+      )
+
+  pub same-course : (n : ℕ) → NoneStarts course past n → course_after k station starts loads outside (quiet_pairs n ++ past) ≡ course
+  same-course n none =
+      holding-course k station starts loads outside past (quiet_pairs n) (keeps-quiet n none)
+      ∙ still-course k station starts (so_far k station starts loads outside past).takes past n (always-taken k station starts loads outside past)
+      (nothing-starts n none)
+
+  pub holder-silent : (n : ℕ) → NoneStarts course past (suc n) → drives_next k station starts loads outside (quiet_pairs n ++ past) ≡ Silent
+  holder-silent n none =
+      let less = fewer-start n none in
+      holding-sends k station starts loads outside past (quiet_pairs n) (keeps-quiet n less)
+      (ap (λ (c : Course). c.holds) (same-course n less) ∙ controls.holds)
+      ∙ still-drive k station starts (so_far k station starts loads outside past).takes past n (always-taken k station starts loads outside past)
+      (nothing-starts (suc n) none)
+
+-- ---- a serving station
+
+module _ (k : ℕ) (station : StationData) (starts : Bool) (loads : List TimedLoad) (outside : List OutsideTake) (past : List Pair)
+    (serving : IsServing k station starts loads outside past) where
+  promised-not : (s : Standing) → is_promise s.duty ≡ false → promised_on k s s.channel ≡ true → ⊥
+  promised-not s none made = true≢false (sym made ∙ three-first (is_promise s.duty) (same_channel s.channel s.channel) (not (superseded k s)) none)
+
+  serving-rests : (n : ℕ) → ((tick : ℕ) → length past ≤ tick → tick < length past + n → outside_takes k station starts loads outside tick outside ≡ []) →
+      StationRests k station starts loads outside past n
+  serving-rests n stays =
+      let s = standing_after k station.terminal loads (hearing_after k station starts loads outside past) in record {
+        controller = record {
+          waits = λ begun runs. absurd (none-some begun (sym serving.serves.idle ∙ runs));
+          starts = λ idle holds entry later left. absurd (true≢false (sym holds ∙ serving.serves.serves));
+        };
+        terminal = record {
+          rests_a = serving.free.rests A;
+          rests_b = serving.free.rests B;
+          answer = λ owed. inr (inr (serving.free.over owed));
+          promise = λ made. absurd (promised-not s serving.free.promise made);
+        };
+        serves = stays;
+      }
+
+  pub serving-still : (n : ℕ) → ((tick : ℕ) → length past ≤ tick → tick < length past + n → outside_takes k station starts loads outside tick outside ≡ []) →
+      IsServing k station starts loads outside (quiet_pairs n ++ past)
+  serving-still n stays =
+      let t = station.terminal in
+      let hearing = hearing_after k station starts loads outside past in
+      let s = standing_after k t loads hearing in
+      let rests = serving-rests n stays in
+      let so = still-so-far k station starts loads outside past n rests in
+      let course = still-after k station starts loads outside past n rests in
+      let still : (d : Channel) → runs k (heard_on d (quiet_moments so.0 ++ hearing.ticks)) ≡ false =
+      λ d. ap (runs k) (heard-quiet d so.0 hearing.ticks) ∙ rests-quiet k (length so.0) (heard_on d hearing.ticks) (serving.free.rests d) in
+      record {
+        serves = record {
+          serves = ap (λ (d : Course). d.holds) course ∙ serving.serves.serves;
+          idle = ap (λ (d : Course). d.runs) course ∙ serving.serves.idle;
+        };
+        free = subst (λ ms. IsFree k t (standing_after k t loads (hearing_after k station starts loads outside (quiet_pairs n ++ past))) ms)
+            (sym (ap (λ (b : StationSoFar). b.hearing.ticks) so.2))
+            (subst (λ u. IsFree k t u (quiet_moments so.0 ++ hearing.ticks)) (sym (still-terminal k station starts loads outside past n rests))
+            (free-still k t s hearing.ticks (quiet_moments so.0) serving.free still));
+      }
+
+  pub serving-quiet : (n : ℕ) →
+      ((tick : ℕ) → length past ≤ tick → tick < length past + suc n → outside_takes k station starts loads outside tick outside ≡ []) →
+      drives_next k station starts loads outside (quiet_pairs n ++ past) ≡ Silent
+  serving-quiet n stays = still-quiet k station starts loads outside past n (serving-rests (suc n) stays)
+
+-- ---- the world
+
+module _ (k : ℕ) (plan : PlanData) (loads : List TimedLoad) (outside : List OutsideTake) (absent : List ℕ) (before : Trace) (place : ℕ)
+    (holder : StationData) (settled : Settled k plan loads outside absent before place holder) where
+  abbrev course_of : Course
+  course_of = course_after k holder (starts plan holder) loads outside before.shown
+
+  abbrev Stays : ℕ → Type 0
+  Stays n = NoneTakes k plan loads outside place (length before.shown) (length before.shown + n)
+
+  abbrev now : ℕ → List Drive
+  now n = drives_after k plan loads outside absent (quiet_pairs n ++ before.shown)
+
+  others-quiet : (n : ℕ) → Stays (suc n) → (other : ℕ) → other ≢ place → station_drive other (now n) ≡ Silent
+  others-quiet n stays other apart =
+      let drives = drive_after k plan loads outside absent (quiet_pairs n ++ before.shown) in
+      ap drive_or (slice_get-map drives plan.stations other)
+      ∙ silent-or (slice_get plan.stations other) drives (λ station there.
+      absent-silent (is_present absent station) (drives_next k station (starts plan station) loads outside (quiet_pairs n ++ before.shown)) (λ present.
+      serving-quiet k station (starts plan station) loads outside before.shown (settled.others other station there apart present) n
+      (λ tick low high. stays other station there apart tick low high)))
+
+  all-quiet : (n : ℕ) → Stays (suc n) → NoneStarts course_of before.shown (suc n) → (station : ℕ) → station_drive station (now n) ≡ Silent
+  all-quiet n stays none station = elim (cases_eq station place) [
+    | inl same ↦ ap (λ i. station_drive i (now n)) same
+        ∙ ap drive_or (slice_get-map (drive_after k plan loads outside absent (quiet_pairs n ++ before.shown)) plan.stations place
+        ∙ ap (option_map (drive_after k plan loads outside absent (quiet_pairs n ++ before.shown))) settled.there
+        ∙ ap (λ (b : Bool). Some (if b then drives_next k holder (starts plan holder) loads outside (quiet_pairs n ++ before.shown) else Silent)) settled.present
+        ∙ ap Some (holder-silent k holder (starts plan holder) loads outside before.shown settled.controls n none))
+    | inr apart ↦ others-quiet n stays station apart
+  ]
+
+  abbrev Paused : ℕ → List (List Drive) → Type 0
+  Paused n silent = (ticks_on k plan loads outside absent before n ≡ record { shown = quiet_pairs n ++ before.shown; driven = silent ++ before.driven })
+      × ((d : Channel) → LeftAlone plan.faults d before.driven silent)
+
+  pub paused : (n : ℕ) → Stays n → NoneStarts course_of before.shown n → (silent : List (List Drive)) × Paused n silent
+  unfolding ticks_on
+  paused zero stays none = ([], (refl, λ d. record { undriven = tt; spent = settled.spent d }))
+  paused (suc n) stays none =
+      let p = paused n (λ other station there apart tick low high. stays other station there apart tick low (omega (arith, high)))
+      (λ entry later left. let late = none entry later left in omega (arith, late)) in
+      let silent = all-quiet n stays none in
+      let left : (d : Channel) → LeftAlone plan.faults d before.driven (now n ∷ p.0) =
+      λ d. record { undriven = (λ station. ap (drives_on d) (silent station), (p.1.1 d).undriven); spent = settled.spent d } in
+      let shows : shown plan.faults ((now n ∷ p.0) ++ before.driven) ≡ quiet_pair =
+      quiet-shown plan.faults ((now n ∷ p.0) ++ before.driven) (quiet-pair plan.faults A before.driven p.0 (now n) (left A))
+      (quiet-pair plan.faults B before.driven p.0 (now n) (left B)) in (
+        now n ∷ p.0,
+        (
+          ap (next_tick k plan loads outside absent) p.1.0
+              ∙ ap (λ x. record { shown = x ∷ (quiet_pairs n ++ before.shown); driven = (now n ∷ p.0) ++ before.driven }) shows,
+          left,
+        ),
+      )
+
+  undriven-still : (silent : List (List Drive)) → ((d : Channel) → LeftAlone plan.faults d before.driven silent) → (d : Channel) (station : ℕ) →
+      drives_on d (station_drive station (newest_drives (silent ++ before.driven))) ≡ false
+  undriven-still [] left d station = settled.undriven d station
+  undriven-still (drives ∷ silent) left d station = (left d).undriven.0 station
+
+  pub settled-still : (n : ℕ) (silent : List (List Drive)) → Stays n → NoneStarts course_of before.shown n →
+      ((d : Channel) → LeftAlone plan.faults d before.driven silent) →
+      Settled k plan loads outside absent record { shown = quiet_pairs n ++ before.shown; driven = silent ++ before.driven } place holder
+  settled-still n silent stays none left =
+      let same = same-course k holder (starts plan holder) loads outside before.shown settled.controls n none in
+      let long : length (quiet_pairs n ++ before.shown) ≡ n + length before.shown = pairs-long n before.shown in
+      record {
+        rests = λ d. ap (runs k) (on-quiet d n before.shown) ∙ rests-quiet k n (on_channel d before.shown) (settled.rests d);
+        undriven = undriven-still silent left;
+        spent = λ d station. left-spent plan.faults d before.driven silent (left d) station;
+        there = settled.there;
+        present = settled.present;
+        controls = record {
+          holds = ap (λ (c : Course). c.holds) same ∙ settled.controls.holds;
+          idle = ap (λ (c : Course). c.runs) same ∙ settled.controls.idle;
+          before = λ tick late. ap (λ (c : Course). yielded_in tick c.ended) same ∙ settled.controls.before tick (omega (arith, late, long));
+        };
+        others = λ other station there apart present.
+            serving-still k station (starts plan station) loads outside before.shown (settled.others other station there apart present) n
+            (stays other station there apart);
+      }
+
+pub pause : (k : ℕ) (plan : PlanData) (loads : List TimedLoad) (outside : List OutsideTake) (absent : List ℕ) (t place : ℕ) (holder : StationData) (n : ℕ) →
+    let before : Trace = trace k plan loads outside absent t in let after : Trace = trace k plan loads outside absent (t + n) in
+    let c : Course = course_after k holder (starts plan holder) loads outside before.shown in
+    Settled k plan loads outside absent before place holder → NoneStarts c before.shown n → NoneTakes k plan loads outside place t (t + n) →
+    (after.shown ≡ quiet_pairs n ++ before.shown) × Settled k plan loads outside absent after place holder
+    × (course_after k holder (starts plan holder) loads outside after.shown ≡ c) × (quiet_from after.shown ≡ quiet_from before.shown)
+pause k plan loads outside absent t place holder n settled none stays =
+    let before : Trace = trace k plan loads outside absent t in
+    let long : length before.shown ≡ t = shown-long k plan loads outside absent t in
+    let here : NoneTakes k plan loads outside place (length before.shown) (length before.shown + n) =
+    λ other station there apart tick low high. stays other station there apart tick (omega (arith, low, long)) (omega (arith, high, long)) in
+    let p = paused k plan loads outside absent before place holder settled n here none in
+    let later = sym (trace-later k plan loads outside absent t n) ∙ p.1.0 in (
+      ap (λ (tr : Trace). tr.shown) later,
+      subst (λ tr. Settled k plan loads outside absent tr place holder) (sym later)
+          (settled-still k plan loads outside absent before place holder settled n p.0 here none p.1.1),
+      ap (λ (tr : Trace). course_after k holder (starts plan holder) loads outside tr.shown) later
+          ∙ same-course k holder (starts plan holder) loads outside before.shown settled.controls n none,
+      ap (λ (tr : Trace). quiet_from tr.shown) later ∙ from-quiet n before.shown,
+    )
