@@ -1,7 +1,7 @@
 pub mod Listening
 pub mod Holding
 pub mod Sending
-pub mod Quieting
+pub mod Running
 pub mod Heard
 pub mod Closing
 pub mod Over

@@ -35,8 +35,8 @@ use Rattle.bus_law_stations.proofs.StillController.{pairs-long, still-course, st
 use Rattle.bus_law_stations.proofs.StillStation.{always-taken, still-so-far, still-after, still-terminal, still-quiet}
 use Rattle.bus_law_stations.proofs.Turning.{holding-course, holding-sends}
 use Rattle.bus_law_messages.specs.Settled.{IsFree, InControl, IsServing, Settled, NoneTakes, NoneStarts}
-use Rattle.bus_law_messages.proofs.Sending.{absent-silent, silent-or, shown-long}
-use Rattle.bus_law_messages.proofs.Quieting.{quiet-pair}
+use Rattle.bus_law_messages.proofs.Sending.{place-silent, place-drives, shown-long}
+use Rattle.bus_law_messages.proofs.Running.{quiet-pair}
 use Rattle.bus_law_messages.proofs.Unanswered.{free-still, trace-later}
 
 -- ---- channels
@@ -164,20 +164,15 @@ module _ (k : ℕ) (plan : PlanData) (loads : List TimedLoad) (outside : List Ou
 
   others-quiet : (n : ℕ) → Stays (suc n) → (other : ℕ) → other ≢ place → station_drive other (now n) ≡ Silent
   others-quiet n stays other apart =
-      let drives = drive_after k plan loads outside absent (quiet_pairs n ++ before.shown) in
-      ap drive_or (slice_get-map drives plan.stations other)
-      ∙ silent-or (slice_get plan.stations other) drives (λ station there.
-      absent-silent (is_present absent station) (drives_next k station (starts plan station) loads outside (quiet_pairs n ++ before.shown)) (λ present.
+      place-silent k plan loads outside absent (quiet_pairs n ++ before.shown) other (λ station there present.
       serving-quiet k station (starts plan station) loads outside before.shown (settled.others other station there apart present) n
-      (λ tick low high. stays other station there apart tick low high)))
+      (λ tick low high. stays other station there apart tick low high))
 
   all-quiet : (n : ℕ) → Stays (suc n) → NoneStarts course_of before.shown (suc n) → (station : ℕ) → station_drive station (now n) ≡ Silent
   all-quiet n stays none station = elim (cases_eq station place) [
     | inl same ↦ ap (λ i. station_drive i (now n)) same
-        ∙ ap drive_or (slice_get-map (drive_after k plan loads outside absent (quiet_pairs n ++ before.shown)) plan.stations place
-        ∙ ap (option_map (drive_after k plan loads outside absent (quiet_pairs n ++ before.shown))) settled.there
-        ∙ ap (λ (b : Bool). Some (if b then drives_next k holder (starts plan holder) loads outside (quiet_pairs n ++ before.shown) else Silent)) settled.present
-        ∙ ap Some (holder-silent k holder (starts plan holder) loads outside before.shown settled.controls n none))
+        ∙ ap drive_or (place-drives k plan loads outside absent (quiet_pairs n ++ before.shown) place holder Silent settled.there settled.present
+        (holder-silent k holder (starts plan holder) loads outside before.shown settled.controls n none))
     | inr apart ↦ others-quiet n stays station apart
   ]
 

@@ -7,6 +7,7 @@ use Rattle.std.specs.Prelude.{◌==◌, is_some}
 use Rattle.bus_base.specs.declared.samples.Channel.{Channel}
 use Rattle.bus_base.specs.declared.samples.Drive.{Drive}
 use Rattle.bus_base.specs.declared.samples.Pair.{Pair}
+use Rattle.bus_base.specs.declared.samples.Part.TheVariants.{Command}
 use Rattle.bus_base.specs.declared.samples.Sample.{Sample}
 use Rattle.bus_words.specs.declared.word.Word.{Word}
 use Rattle.bus_line.specs.Past.{Burst, end_of, rest_of, quiet_ticks, quiet, runs, end_since}
@@ -194,7 +195,7 @@ pub message-sent : (k : ℕ) (plan : PlanData) (loads : List TimedLoad) (outside
     let begun : Begun = message_begun c entry t in let words : List Word = command_words entry.item.kind in
     let after : Trace = trace k plan loads outside absent (t + (40 * length words + suc k)) in
     Settled k plan loads outside absent before place holder → BeginsMessage c before.shown entry → (answers_of entry.item.kind).first ≡ None →
-    NoneTakes k plan loads outside place t (t + (40 * length words + suc k)) → LeavesWhole plan.faults before.driven hits words → added_by hits ≡ 0 →
+    NoneTakes k plan loads outside place t (t + (40 * length words + suc k)) → LeavesWhole plan.faults Command before.driven hits words → added_by hits ≡ 0 →
     IsUnanswered k plan loads outside absent before.shown place begun.state.channel (burst_sent t hits words) →
     (ticks : List Pair) × (sent : List (List Drive)) × (silent : List (List Drive))
     × CommandOver k plan loads outside absent before place holder begun hits ticks sent silent

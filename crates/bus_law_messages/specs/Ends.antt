@@ -27,25 +27,11 @@ use Rattle.bus_law_stations.specs.Silence.{AwaitsFirst}
 use Rattle.bus_law_stations.specs.Legs.{obeyed_in, after_command}
 use Rattle.bus_law_stations.specs.Messages.{with_running}
 use Rattle.bus_law_stations.specs.Turns.{moments_of}
-use Rattle.bus_law_messages.specs.Commands.{command_sender}
+use Rattle.bus_law_messages.specs.Commands.{command_sender, WordsEnd}
 
 -- the burst that words make, sent from this tick on, as these hits strike them
 abbrev pub burst_sent : ℕ → List Hit → List Word → Burst
 burst_sent start hits words = record { first = start; ticks = 40 * length words; slots = slots_shown hits 0 words }
-
--- the command of a message was sent in the ticks before, which drove this, and j quiet ticks followed: n in all, the newest first
-pub record CommandEnds (k : ℕ) (plan : PlanData) (loads : List TimedLoad) (outside : List OutsideTake) (absent : List ℕ) (before : Trace)
-    (begun : Begun) (hits : List Hit) (n j : ℕ) (ticks : List Pair) (sent silent : List (List Drive)) : Type 0 where
-  -- these are the ticks of the world
-  pub world : ticks_on k plan loads outside absent before n ≡ record { shown = ticks ++ before.shown; driven = silent ++ (sent ++ before.driven) }
-  pub many : length ticks ≡ n
-  pub after : length silent ≡ j
-  -- after the command no station drives a channel, nor is an extra left to show
-  pub left : (d : Channel) → LeftAlone plan.faults d (sent ++ before.driven) silent
-  -- so the command's channel shows the command, then quiet ticks, and the other one is quiet
-  pub shown : on_channel begun.state.channel ticks
-      ≡ quiet_ticks j ++ struck_spelling hits (command_words begun.entry.item.kind) (40 * length (command_words begun.entry.item.kind))
-  pub quiet : on_channel (other_of begun.state.channel) ticks ≡ quiet_ticks n
 
 -- what the end of this burst on a channel leaves of a serving station: ticks are those of the burst, with the k + 1 quiet ones after it
 pub record HeardCommand (k : ℕ) (station : StationData) (starts : Bool) (loads : List TimedLoad) (outside : List OutsideTake) (past ticks : List Pair)
@@ -86,9 +72,8 @@ pub record SentCommand (k : ℕ) (station : StationData) (starts : Bool) (loads 
 pub record CommandOver (k : ℕ) (plan : PlanData) (loads : List TimedLoad) (outside : List OutsideTake) (absent : List ℕ) (before : Trace) (place : ℕ)
     (holder : StationData) (begun : Begun) (hits : List Hit) (ticks : List Pair) (sent silent : List (List Drive)) : Type 0 where
   -- the station in control sent it alone, and nobody drove a channel after it
-  pub alone : SentAlone plan.faults (command_sender place begun) hits before.driven sent
-  pub long : length sent ≡ 40 * length (command_words begun.entry.item.kind)
-  pub ends : CommandEnds k plan loads outside absent before begun hits (40 * length (command_words begun.entry.item.kind) + suc k) (suc k) ticks sent silent
+  pub ends : WordsEnd k plan loads outside absent before (command_sender place begun) hits
+      (40 * length (command_words begun.entry.item.kind) + suc k) (suc k) ticks sent silent
   -- the station in control ended the message, or waits for its answer
   pub controls : SentCommand k holder (starts plan holder) loads outside before.shown ticks begun
       (burst_sent begun.start hits (command_words begun.entry.item.kind))

@@ -3,6 +3,7 @@
 ghost use Rattle.std.specs.Prelude.{◌≡◌, ℕ, suc, ◌+◌, ◌*◌, ◌<◌, ◌≤◌, List, length};
 ghost use Rattle.bus_base.specs.declared.samples.Drive.{Drive};
 ghost use Rattle.bus_base.specs.declared.samples.Pair.{Pair};
+ghost use Rattle.bus_base.specs.declared.samples.Part.TheVariants.{Command};
 ghost use Rattle.bus_words.specs.declared.word.Word.{Word};
 ghost use Rattle.bus_formats.specs.Forms.{command_words};
 ghost use Rattle.bus_formats.specs.Plans.{StationData, PlanData};
@@ -29,7 +30,7 @@ pub fn a_command_is_sent_alone()
         let c : Course = course_after k holder (starts plan holder) loads outside before.shown in
         let begun : Begun = message_begun c entry t in let words : List Word = command_words entry.item.kind in
         Settled k plan loads outside absent before place holder → BeginsMessage c before.shown entry →
-        NoneTakes k plan loads outside place t (t + n) → LeavesWhole plan.faults before.driven hits words → n ≤ 40 * length words →
+        NoneTakes k plan loads outside place t (t + n) → LeavesWhole plan.faults Command before.driven hits words → n ≤ 40 * length words →
         (ticks : List Pair) × (sent : List (List Drive)) × CommandSent k plan loads outside absent before place begun hits n ticks sent }
 {}
 
@@ -42,7 +43,7 @@ pub fn a_sent_command_is_heard()
         let c : Course = course_after k holder (starts plan holder) loads outside before.shown in
         let begun : Begun = message_begun c entry t in let words : List Word = command_words entry.item.kind in
         Settled k plan loads outside absent before place holder → BeginsMessage c before.shown entry →
-        NoneTakes k plan loads outside place t (t + (40 * length words + suc k)) → LeavesWhole plan.faults before.driven hits words →
+        NoneTakes k plan loads outside place t (t + (40 * length words + suc k)) → LeavesWhole plan.faults Command before.driven hits words →
         added_by hits ≡ 0 → (ticks : List Pair) × (sent : List (List Drive)) × (silent : List (List Drive))
         × CommandOver k plan loads outside absent before place holder begun hits ticks sent silent }
 {}
