@@ -8,3 +8,5 @@ pub mod Over
 pub mod Unanswered
 pub mod Pausing
 pub mod Beginning
+pub mod Answering
+pub mod Waiting

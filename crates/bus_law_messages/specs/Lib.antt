@@ -1,3 +1,4 @@
 pub mod Settled
 pub mod Commands
 pub mod Ends
+pub mod Answers
