@@ -1,13 +1,11 @@
 -- A serving station that answers: it sends its words and hears none of them, and after them it is free.
-use Rattle.std.proofs.Common.{◌≡◌, ◌⊎◌, inl, inr, ℕ, suc, ◌+◌, ◌*◌, ◌<◌, ◌≤◌, Bool, true, false, List, [], ◌∷◌, ◌++◌, length, Option, Some, None, refl, sym, ap, ◌∙◌, subst, arith, length-append}
-use Rattle.std.proofs.lemmas.Bool.{true≢false}
+use Rattle.std.proofs.Common.{◌≡◌, inl, inr, ℕ, suc, ◌+◌, ◌*◌, ◌<◌, ◌≤◌, Bool, true, false, List, [], ◌∷◌, ◌++◌, length, Option, Some, None, refl, sym, ap, ◌∙◌, subst, arith, length-append}
 use Rattle.std.proofs.lemmas.List.{append_assoc}
 use Rattle.std.specs.Prelude.{drop, is_some, is_none}
 use Rattle.bus_base.specs.Samples.{sample_on, other_of}
 use Rattle.bus_base.specs.declared.samples.Channel.{Channel}
 use Rattle.bus_base.specs.declared.samples.Channel.TheVariants.{A, B}
 use Rattle.bus_base.specs.declared.samples.Pair.{Pair}
-use Rattle.bus_base.specs.declared.samples.Part.{Part}
 use Rattle.bus_base.specs.declared.samples.Part.TheVariants.{First}
 use Rattle.bus_base.specs.declared.samples.Sample.{Sample}
 use Rattle.bus_words.specs.declared.word.Word.{Word}
@@ -16,7 +14,7 @@ use Rattle.bus_line.specs.Channels.{on_channel}
 use Rattle.bus_formats.specs.Plans.{TerminalData, StationData}
 use Rattle.bus_formats.specs.declared.fault.Hit.{Hit}
 use Rattle.bus_model.specs.Memory.{TimedLoad}
-use Rattle.bus_model.specs.Orders.{Duty, owes, due_after}
+use Rattle.bus_model.specs.Orders.{owes, due_after}
 use Rattle.bus_model.specs.Hearing.{Moment, Hearing, heard_on}
 use Rattle.bus_model.specs.Sending.{drive_sample}
 use Rattle.bus_model.specs.Standing.{Standing, mark_on, ignored_from, is_promise}
@@ -26,7 +24,7 @@ use Rattle.bus_model.specs.Control.{OutsideTake, StationSoFar, moment_of, course
 use Rattle.bus_law_line.specs.Shown.{struck_of, struck_spelling}
 use Rattle.bus_law_line.specs.Senders.{AreHeard}
 use Rattle.bus_law_line.proofs.Rows.{end-row}
-use Rattle.bus_law_stations.specs.Legs.{HearsBurst, BeginsAnswer, with_sent}
+use Rattle.bus_law_stations.specs.Legs.{HearsBurst, with_sent}
 use Rattle.bus_law_stations.specs.Turns.{moments_of, TakesNothing}
 use Rattle.bus_law_stations.proofs.LegTicks.{heard-append, heeded-later}
 use Rattle.bus_law_stations.proofs.Resting.{heard-long}

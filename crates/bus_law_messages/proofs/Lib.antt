@@ -10,3 +10,4 @@ pub mod Pausing
 pub mod Beginning
 pub mod Answering
 pub mod Waiting
+pub mod Answered

@@ -1,8 +1,8 @@
 -- Silence: from a settled moment nothing happens until the next message starts, and every moment until then is settled.
-use Rattle.std.proofs.Common.{◌≡◌, ◌≢◌, inl, inr, ℕ, zero, suc, ◌+◌, ◌-◌, ◌<◌, ◌≤◌, Bool, true, false, List, [], ◌∷◌, ◌++◌, length, Some, refl, sym, ap, ◌∙◌, subst, arith, option_map}
+use Rattle.std.proofs.Common.{◌≡◌, ◌≢◌, inl, inr, ℕ, zero, suc, ◌+◌, ◌-◌, ◌<◌, ◌≤◌, Bool, true, false, List, [], ◌∷◌, ◌++◌, length, refl, sym, ap, ◌∙◌, subst, arith}
 use Rattle.std.proofs.lemmas.Bool.{cases_eq, true≢false}
-use Rattle.std.proofs.lemmas.Option.{slice_get-map, none-some}
-use Rattle.std.specs.Prelude.{if◌then◌else◌, not, slice_get}
+use Rattle.std.proofs.lemmas.Option.{none-some}
+use Rattle.std.specs.Prelude.{not}
 use Rattle.bus_base.specs.Samples.{sample_on, same_channel}
 use Rattle.bus_base.specs.declared.samples.Channel.{Channel}
 use Rattle.bus_base.specs.declared.samples.Channel.TheVariants.{A, B}
@@ -23,7 +23,7 @@ use Rattle.bus_model.specs.Transmissions.{drives_on, drive_or, station_drive, ne
 use Rattle.bus_model.specs.Wire.{samples_on, shown}
 use Rattle.bus_model.specs.Course.{Course, quiet_from}
 use Rattle.bus_model.specs.Control.{OutsideTake, StationSoFar, yielded_in, outside_takes, so_far, course_after, hearing_after, drives_next}
-use Rattle.bus_model.specs.World.{Trace, trace, is_present, drive_after, drives_after, next_tick, ticks_on}
+use Rattle.bus_model.specs.World.{Trace, trace, drives_after, next_tick, ticks_on}
 use Rattle.bus_law_line.specs.Shown.{shown_of}
 use Rattle.bus_law_line.specs.Senders.{LeftAlone}
 use Rattle.bus_law_line.proofs.Sent.{left-spent}

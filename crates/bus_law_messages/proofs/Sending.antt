@@ -1,12 +1,11 @@
 -- The world while the station in control sends its command, from a settled moment.
-use Rattle.std.proofs.Common.{◌≡◌, ◌≢◌, ℕ, zero, suc, ◌+◌, ◌*◌, ◌<◌, ◌≤◌, Bool, true, false, List, [], ◌∷◌, ◌++◌, length, map, Option, Some, None, refl, sym, ap, ◌∙◌, arith, option_map}
+use Rattle.std.proofs.Common.{◌≡◌, ◌≢◌, ℕ, zero, suc, ◌+◌, ◌*◌, ◌<◌, ◌≤◌, Bool, true, false, List, ◌++◌, length, Option, Some, None, refl, ap, ◌∙◌, arith, option_map}
 use Rattle.std.proofs.lemmas.Option.{slice_get-map}
 use Rattle.std.specs.Prelude.{if◌then◌else◌, slice_get}
 use Rattle.bus_base.specs.declared.samples.Drive.{Drive}
 use Rattle.bus_base.specs.declared.samples.Drive.TheVariants.{Silent}
 use Rattle.bus_base.specs.declared.samples.Pair.{Pair}
 use Rattle.bus_base.specs.declared.samples.Part.TheVariants.{Command}
-use Rattle.bus_words.specs.declared.word.Word.{Word}
 use Rattle.bus_formats.specs.Forms.{command_words}
 use Rattle.bus_formats.specs.Plans.{StationData, PlanData}
 use Rattle.bus_formats.specs.declared.fault.Hit.{Hit}
@@ -16,7 +15,7 @@ use Rattle.bus_model.specs.Starts.{Entry, starts}
 use Rattle.bus_model.specs.Transmissions.{drive_or, station_drive}
 use Rattle.bus_model.specs.Attempts.{Begun}
 use Rattle.bus_model.specs.Control.{OutsideTake, course_after, drives_next}
-use Rattle.bus_model.specs.World.{Trace, world, trace, is_present, drive_after, drives_after, next_tick, ticks_on}
+use Rattle.bus_model.specs.World.{Trace, world, trace, is_present, drive_after, drives_after, ticks_on}
 use Rattle.bus_law_line.specs.Senders.{Sender}
 use Rattle.bus_law_stations.specs.Messages.{BeginsMessage, message_begun}
 use Rattle.bus_law_messages.specs.Settled.{Settled, NoneTakes}

@@ -4,6 +4,7 @@ use Rattle.std.proofs.lemmas.Bool.{true≢false}
 use Rattle.std.proofs.lemmas.Bool.Decides.{nat_tests}
 use Rattle.std.proofs.lemmas.List.{append_assoc}
 use Rattle.std.specs.Prelude.{◌==◌, is_some}
+use Rattle.bus_base.specs.Samples.{other_of}
 use Rattle.bus_base.specs.declared.samples.Channel.{Channel}
 use Rattle.bus_base.specs.declared.samples.Drive.{Drive}
 use Rattle.bus_base.specs.declared.samples.Pair.{Pair}
@@ -16,6 +17,7 @@ use Rattle.bus_line.proofs.ChannelLaws.{on-append}
 use Rattle.bus_formats.specs.Forms.{answers_of, command_words}
 use Rattle.bus_formats.specs.Plans.{TerminalData, StationData, PlanData}
 use Rattle.bus_formats.specs.declared.form.Outcome.TheVariants.{Sent}
+use Rattle.bus_formats.specs.declared.fault.Fault.{Fault}
 use Rattle.bus_formats.specs.declared.fault.Hit.{Hit}
 use Rattle.bus_model.specs.Memory.{TimedLoad}
 use Rattle.bus_model.specs.Orders.{Obeyed, Order, last_order, due_after}
@@ -57,7 +59,7 @@ rests-then k past =
     grind (arith, nat_tests, enough)
 
 -- on the command's channel, and on the other one
-rests-row : (k n : ℕ) (c d : Channel) (row past ticks : List Sample) → ticks ≡ quiet_ticks (suc k) ++ row → runs k (ticks ++ past) ≡ false
+pub rests-row : (k n : ℕ) (c d : Channel) (row past ticks : List Sample) → ticks ≡ quiet_ticks (suc k) ++ row → runs k (ticks ++ past) ≡ false
 rests-row k n c d row past ticks is =
     ap (λ xs. runs k (xs ++ past)) is ∙ ap (runs k) (append_assoc (quiet_ticks (suc k)) row past) ∙ rests-then k (row ++ past)
 
@@ -89,6 +91,56 @@ module _ (k : ℕ) (t : TerminalData) (s : Standing) (heard later : List Moment)
     promise = ap is_promise none;
   }
 
+-- ---- a serving station
+
+-- in the first of these ticks nobody drove a channel
+pub first-silent : (faults : List Fault) (before silent : List (List Drive)) → ((d : Channel) → LeftAlone faults d before silent) → 0 < length silent →
+    (d : Channel) (station : ℕ) → drives_on d (station_drive station (newest_drives (silent ++ before))) ≡ false
+first-silent faults before [] left some d station = absurd (omega (arith, some))
+first-silent faults before (now ∷ silent) left some d station = (left d).undriven.0 station
+
+-- after a row of samples with k + 1 quiet ticks no burst runs on either channel
+pub rests-both : (k n : ℕ) (c : Channel) (row : List Sample) (ticks : List Pair) → on_channel c ticks ≡ quiet_ticks (suc k) ++ row →
+    on_channel (other_of c) ticks ≡ quiet_ticks n → (d : Channel) (past : List Sample) → runs k past ≡ false → runs k (on_channel d ticks ++ past) ≡ false
+rests-both k n c row ticks shown quiet d past none = elim (this-or-other c d) [
+  | inl same ↦ ap (λ e. runs k (on_channel e ticks ++ past)) same ∙ rests-row k 0 c d row past (on_channel c ticks) shown
+  | inr apart ↦ ap (λ e. runs k (on_channel e ticks ++ past)) apart ∙ ap (λ xs. runs k (xs ++ past)) quiet ∙ rests-quiet k n past none
+]
+
+module _ (k : ℕ) (loads : List TimedLoad) (outside : List OutsideTake) (past ticks : List Pair) (c : Channel) (burst : Burst)
+    (rests-ticks : (d : Channel) (past : List Sample) → runs k past ≡ false → runs k (on_channel d ticks ++ past) ≡ false) where
+  pub serving-again : (station : StationData) (starts : Bool) → IsServing k station starts loads outside past →
+      HeardCommand k station starts loads outside past ticks c burst →
+      ((order : Order) → last_order station.terminal.address burst.slots ≡ Some order →
+      (obeyed_in station.terminal loads (end_of burst + k) (standing_after k station.terminal loads (hearing_after k station starts loads outside past)) c
+      order (rest_of burst) (has_items (course_after k station starts loads outside past).left)).duty ≡ orders.free) →
+      IsServing k station starts loads outside (ticks ++ past)
+  serving-again station starts serving heard unanswered =
+      let t = station.terminal in
+      let hearing = hearing_after k station starts loads outside past in
+      let course = course_after k station starts loads outside past in
+      let later = moments_of course ticks in
+      let s = standing_after k t loads hearing in
+      let rests : (d : Channel) → runs k (heard_on d (later ++ hearing.ticks)) ≡ false =
+      λ d. ap (runs k) (heard-append d later hearing.ticks ∙ ap (λ xs. xs ++ heard_on d hearing.ticks) (moments-shown d course ticks))
+      ∙ rests-ticks d (heard_on d hearing.ticks) (serving.free.rests d) in
+      let long = ap (λ h. h.ticks) heard.hears in
+      record {
+        serves = record {
+          serves = ap (λ (d : Course). d.holds) heard.course ∙ serving.serves.serves;
+          idle = ap (λ (d : Course). d.runs) heard.course ∙ serving.serves.idle;
+        };
+        free = subst (λ ms. IsFree k t (standing_after k t loads (hearing_after k station starts loads outside (ticks ++ past))) ms) (sym long)
+            (elim (cases-option (last_order t.address burst.slots)) [
+              | inl none ↦ subst (λ u. IsFree k t u (later ++ hearing.ticks)) (sym (heard.passed none).0)
+                  (free-still k t s hearing.ticks later serving.free rests)
+              | inr found ↦ (let o = heard.obeyed found.0 found.1 in
+                  subst (λ u. IsFree k t u (later ++ hearing.ticks)) (sym o.1)
+                  (free-after k t s hearing.ticks later serving.free rests c (end_of burst) o.0
+                  (obeyed_in t loads (end_of burst + k) s c found.0 (rest_of burst) (has_items course.left)) (unanswered found.0 found.1)))
+            ]);
+      }
+
 -- ---- all stations
 
 module _ (k : ℕ) (plan : PlanData) (loads : List TimedLoad) (outside : List OutsideTake) (absent : List ℕ) (before : Trace) (place : ℕ)
@@ -104,49 +156,8 @@ module _ (k : ℕ) (plan : PlanData) (loads : List TimedLoad) (outside : List Ou
   abbrev after : Trace
   after = record { shown = ticks ++ before.shown; driven = silent ++ (sent ++ before.driven) }
 
-  -- a channel after these ticks, over any past in which no burst ran
   rests-over : (d : Channel) (past : List Sample) → runs k past ≡ false → runs k (on_channel d ticks ++ past) ≡ false
-  rests-over d past none = elim (this-or-other c d) [
-    | inl same ↦ ap (λ e. runs k (on_channel e ticks ++ past)) same ∙ rests-row k 0 c d _ past (on_channel c ticks) over.ends.shown
-    | inr apart ↦ ap (λ e. runs k (on_channel e ticks ++ past)) apart ∙ ap (λ xs. runs k (xs ++ past)) over.ends.quiet ∙ rests-quiet k _ past none
-  ]
-
-  first-silent : (silent : List (List Drive)) → ((d : Channel) → LeftAlone plan.faults d (sent ++ before.driven) silent) → length silent ≡ suc k →
-      (d : Channel) (station : ℕ) → drives_on d (station_drive station (newest_drives (silent ++ (sent ++ before.driven)))) ≡ false
-  first-silent [] left some d station = absurd (omega (arith, some))
-  first-silent (now ∷ silent) left some d station = (left d).undriven.0 station
-
-  pub serving-again : (station : StationData) (starts : Bool) → IsServing k station starts loads outside before.shown →
-      HeardCommand k station starts loads outside before.shown ticks c burst →
-      ((order : Order) → last_order station.terminal.address burst.slots ≡ Some order →
-      (obeyed_in station.terminal loads (end_of burst + k) (standing_after k station.terminal loads (hearing_after k station starts loads outside before.shown)) c
-      order (rest_of burst) (has_items (course_after k station starts loads outside before.shown).left)).duty ≡ orders.free) →
-      IsServing k station starts loads outside (ticks ++ before.shown)
-  serving-again station starts serving heard unanswered =
-      let t = station.terminal in
-      let hearing = hearing_after k station starts loads outside before.shown in
-      let course = course_after k station starts loads outside before.shown in
-      let later = moments_of course ticks in
-      let s = standing_after k t loads hearing in
-      let rests : (d : Channel) → runs k (heard_on d (later ++ hearing.ticks)) ≡ false =
-      λ d. ap (runs k) (heard-append d later hearing.ticks ∙ ap (λ xs. xs ++ heard_on d hearing.ticks) (moments-shown d course ticks))
-      ∙ rests-over d (heard_on d hearing.ticks) (serving.free.rests d) in
-      let long = ap (λ h. h.ticks) heard.hears in
-      record {
-        serves = record {
-          serves = ap (λ (d : Course). d.holds) heard.course ∙ serving.serves.serves;
-          idle = ap (λ (d : Course). d.runs) heard.course ∙ serving.serves.idle;
-        };
-        free = subst (λ ms. IsFree k t (standing_after k t loads (hearing_after k station starts loads outside (ticks ++ before.shown))) ms) (sym long)
-            (elim (cases-option (last_order t.address burst.slots)) [
-              | inl none ↦ subst (λ u. IsFree k t u (later ++ hearing.ticks)) (sym (heard.passed none).0)
-                  (free-still k t s hearing.ticks later serving.free rests)
-              | inr found ↦ (let o = heard.obeyed found.0 found.1 in
-                  subst (λ u. IsFree k t u (later ++ hearing.ticks)) (sym o.1)
-                  (free-after k t s hearing.ticks later serving.free rests c (end_of burst) o.0
-                  (obeyed_in t loads (end_of burst + k) s c found.0 (rest_of burst) (has_items course.left)) (unanswered found.0 found.1)))
-            ]);
-      }
+  rests-over = rests-both k _ c _ ticks over.ends.shown over.ends.quiet
 
   -- the station in control, whose message ended Sent
   control-again : (answers_of begun.entry.item.kind).first ≡ None →
@@ -162,12 +173,12 @@ module _ (k : ℕ) (plan : PlanData) (loads : List TimedLoad) (outside : List Ou
       Settled k plan loads outside absent after place holder
   settled-again none unanswered = record {
     rests = λ d. ap (runs k) (on-append d ticks before.shown) ∙ rests-over d (on_channel d before.shown) (settled.rests d);
-    undriven = first-silent silent over.ends.left over.ends.after;
+    undriven = first-silent plan.faults (sent ++ before.driven) silent over.ends.left (omega (arith, over.ends.after));
     spent = λ d station. left-spent plan.faults d (sent ++ before.driven) silent (over.ends.left d) station;
     there = settled.there;
     present = settled.present;
     controls = control-again none;
-    others = λ other station there apart present. serving-again station (starts plan station) (settled.others other station there apart present)
+    others = λ other station there apart present. serving-again k loads outside before.shown ticks c burst rests-over station (starts plan station) (settled.others other station there apart present)
         (over.others other station there apart present) (unanswered other station there apart present);
   }
 

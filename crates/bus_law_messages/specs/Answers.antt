@@ -1,31 +1,35 @@
 -- An answer: the moment at which it is due, and what its end leaves.
-use Rattle.std.specs.Prelude.{◌≡◌, ◌≢◌, ℕ, ◌+◌, ◌*◌, ◌≤◌, Bool, true, false, List, ◌++◌, length, slice_get, Some, None}
+use Rattle.std.specs.Prelude.{◌≡◌, ◌≢◌, ℕ, suc, ◌+◌, ◌*◌, ◌≤◌, Bool, true, false, List, ◌++◌, length, slice_get, Some, None}
 use Rattle.bus_base.specs.Samples.{other_of}
 use Rattle.bus_base.specs.declared.samples.Channel.{Channel}
+use Rattle.bus_base.specs.declared.samples.Drive.{Drive}
 use Rattle.bus_base.specs.declared.samples.Pair.{Pair}
 use Rattle.bus_base.specs.declared.samples.Part.TheVariants.{First}
 use Rattle.bus_words.specs.declared.word.Word.{Word}
-use Rattle.bus_line.specs.Past.{Burst, end_of, runs}
+use Rattle.bus_line.specs.Past.{Burst, end_of, rest_of, runs}
 use Rattle.bus_line.specs.Channels.{on_channel}
 use Rattle.bus_formats.specs.Plans.{StationData, PlanData}
+use Rattle.bus_formats.specs.declared.fault.Hit.{Hit}
 use Rattle.bus_formats.specs.declared.form.Outcome.TheVariants.{Clear}
 use Rattle.bus_model.specs.Memory.{TimedLoad}
-use Rattle.bus_model.specs.Orders.{owes}
+use Rattle.bus_model.specs.Orders.{Order, last_order, free, owes}
 use Rattle.bus_model.specs.Hearing.{heard_on}
 use Rattle.bus_model.specs.Standing.{mark_on, ignored_from}
 use Rattle.bus_model.specs.Terminal.{standing_after}
-use Rattle.bus_model.specs.Starts.{starts}
+use Rattle.bus_model.specs.Starts.{starts, has_items}
 use Rattle.bus_model.specs.Attempts.{Begun, Ended, kept_words}
 use Rattle.bus_model.specs.Transmissions.{drives_on, station_drive, newest_drives}
 use Rattle.bus_model.specs.Control.{OutsideTake, yielded_in, course_after, hearing_after}
-use Rattle.bus_model.specs.Course.{Course}
+use Rattle.bus_model.specs.Course.{Course, close}
 use Rattle.bus_model.specs.World.{Trace, is_present}
 use Rattle.bus_law_line.specs.Senders.{Sender, IsSpent}
 use Rattle.bus_law_stations.specs.Silence.{AwaitsFirst}
-use Rattle.bus_law_stations.specs.Legs.{BeginsAnswer}
+use Rattle.bus_law_stations.specs.Legs.{BeginsAnswer, obeyed_in}
 use Rattle.bus_law_stations.specs.Messages.{IsAnswered}
 use Rattle.bus_law_stations.specs.Turns.{Serves}
 use Rattle.bus_law_messages.specs.Settled.{IsServing}
+use Rattle.bus_law_messages.specs.Commands.{WordsEnd}
+use Rattle.bus_law_messages.specs.Ends.{burst_sent, HeardCommand}
 
 -- a station in control waits for the answer to its message, of which the command's burst ended in tick e: c is its course
 pub record IsWaiting (k : ℕ) (begun : Begun) (c : Course) (past : List Pair) (e : ℕ) : Type 0 where
@@ -76,3 +80,27 @@ answer_sender place begun words = record { station = place; channel = begun.stat
 abbrev pub clear_with : Begun → Burst → ℕ → Ended
 clear_with begun burst status =
     record { outcome = Clear; first = Some status; second = None; words = kept_words begun.entry.item.kind burst.slots }
+
+-- no other terminal owes or promises anything to the answer, this burst, which ends on a channel after what was shown
+abbrev pub LeavesNothing : ℕ → PlanData → List TimedLoad → List OutsideTake → List ℕ → List Pair → ℕ → ℕ → Channel → Burst → Type 0
+LeavesNothing k plan loads outside absent past place answerer c burst =
+    (other : ℕ) (station : StationData) → slice_get plan.stations other ≡ Some station → other ≢ place → other ≢ answerer →
+    is_present absent station ≡ true → (order : Order) → last_order station.terminal.address burst.slots ≡ Some order →
+    (obeyed_in station.terminal loads (end_of burst + k)
+    (standing_after k station.terminal loads (hearing_after k station (starts plan station) loads outside past)) c order (rest_of burst)
+    (has_items (course_after k station (starts plan station) loads outside past).left)).duty ≡ free
+
+-- an answer, its end known, as the world shows it and each station made of it: in 40 ticks a word, and k + 1 more
+pub record AnswerOver (k : ℕ) (plan : PlanData) (loads : List TimedLoad) (outside : List OutsideTake) (absent : List ℕ) (before : Trace) (place : ℕ)
+    (holder : StationData) (begun : Begun) (answerer : ℕ) (words : List Word) (hits : List Hit) (status start : ℕ) (ticks : List Pair)
+    (sent silent : List (List Drive)) : Type 0 where
+  -- its station sent it alone, and nobody drove a channel after it
+  pub ends : WordsEnd k plan loads outside absent before (answer_sender answerer begun words) hits (40 * length words + suc k) (suc k) ticks sent silent
+  -- the message ended Clear, with what the answer brought
+  pub controls : course_after k holder (starts plan holder) loads outside (ticks ++ before.shown)
+      ≡ close (course_after k holder (starts plan holder) loads outside before.shown) begun (clear_with begun (burst_sent start hits words) status)
+      (start + 40 * length words + k)
+  -- every other station passed over the answer, or obeyed a command in it
+  pub others : (other : ℕ) (station : StationData) → slice_get plan.stations other ≡ Some station → other ≢ place → other ≢ answerer →
+      is_present absent station ≡ true →
+      HeardCommand k station (starts plan station) loads outside before.shown ticks begun.state.channel (burst_sent start hits words)

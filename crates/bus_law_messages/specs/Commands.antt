@@ -1,5 +1,5 @@
 -- A command that is sent: what the stations drive in its ticks, and what the channels show of it.
-use Rattle.std.specs.Prelude.{◌≡◌, ℕ, ◌*◌, ◌<◌,  false, List, ◌++◌, length}
+use Rattle.std.specs.Prelude.{◌≡◌, ℕ, ◌*◌, ◌<◌, false, List, ◌++◌, length}
 use Rattle.std.specs.List.{list_any}
 use Rattle.bus_base.specs.Samples.{other_of}
 use Rattle.bus_base.specs.declared.samples.Drive.{Drive}

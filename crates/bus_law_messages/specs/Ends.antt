@@ -1,11 +1,10 @@
 -- The end of a command: the quiet ticks in which it becomes known, and what the stations make of it then.
 use Rattle.std.specs.Prelude.{◌≡◌, ◌≢◌, ℕ, suc, ◌+◌, ◌*◌, Bool, true, List, ◌++◌, length, slice_get, Some, None}
-use Rattle.bus_base.specs.Samples.{other_of}
 use Rattle.bus_base.specs.declared.samples.Channel.{Channel}
 use Rattle.bus_base.specs.declared.samples.Drive.{Drive}
 use Rattle.bus_base.specs.declared.samples.Pair.{Pair}
 use Rattle.bus_words.specs.declared.word.Word.{Word}
-use Rattle.bus_line.specs.Past.{Burst, end_of, rest_of, quiet_ticks}
+use Rattle.bus_line.specs.Past.{Burst, end_of, rest_of}
 use Rattle.bus_line.specs.Channels.{on_channel}
 use Rattle.bus_formats.specs.Forms.{answers_of, command_words}
 use Rattle.bus_formats.specs.Plans.{StationData, PlanData}
@@ -20,9 +19,8 @@ use Rattle.bus_model.specs.Starts.{has_items, starts}
 use Rattle.bus_model.specs.Attempts.{Begun, without_words}
 use Rattle.bus_model.specs.Course.{close}
 use Rattle.bus_model.specs.Control.{OutsideTake, course_after, hearing_after}
-use Rattle.bus_model.specs.World.{Trace, is_present, ticks_on}
-use Rattle.bus_law_line.specs.Shown.{struck_spelling, slots_shown}
-use Rattle.bus_law_line.specs.Senders.{SentAlone, LeftAlone}
+use Rattle.bus_model.specs.World.{Trace, is_present}
+use Rattle.bus_law_line.specs.Shown.{slots_shown}
 use Rattle.bus_law_stations.specs.Silence.{AwaitsFirst}
 use Rattle.bus_law_stations.specs.Legs.{obeyed_in, after_command}
 use Rattle.bus_law_stations.specs.Messages.{with_running}

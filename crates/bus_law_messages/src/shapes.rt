@@ -3,9 +3,11 @@
 ghost use Rattle.std.specs.Prelude.{◌≡◌, ℕ, suc, ◌+◌, ◌*◌, ◌<◌, List, ◌++◌, length, None};
 ghost use Rattle.bus_base.specs.declared.samples.Drive.{Drive};
 ghost use Rattle.bus_base.specs.declared.samples.Pair.{Pair};
-ghost use Rattle.bus_base.specs.declared.samples.Part.TheVariants.{Command};
+ghost use Rattle.bus_base.specs.declared.samples.Part.TheVariants.{Command, First};
 ghost use Rattle.bus_words.specs.declared.word.Word.{Word};
 ghost use Rattle.bus_formats.specs.Forms.{answers_of, command_words};
+ghost use Rattle.bus_formats.specs.Readings.{read_answer};
+ghost use Rattle.bus_formats.specs.declared.form.Reading.TheVariants.{Good};
 ghost use Rattle.bus_formats.specs.Plans.{StationData, PlanData};
 ghost use Rattle.bus_formats.specs.declared.fault.Hit.{Hit};
 ghost use Rattle.bus_formats.specs.declared.form.Outcome.TheVariants.{Sent};
@@ -16,9 +18,11 @@ ghost use Rattle.bus_model.specs.Attempts.{Begun, without_words};
 ghost use Rattle.bus_model.specs.Course.{Course, close};
 ghost use Rattle.bus_model.specs.Control.{OutsideTake, course_after};
 ghost use Rattle.bus_model.specs.World.{Trace, trace};
+ghost use Rattle.bus_law_line.specs.Shown.{slots_shown};
 ghost use Rattle.bus_law_stations.specs.Messages.{BeginsMessage, message_begun};
 ghost use Rattle.bus_law_messages.specs.Settled.{Settled, NoneTakes};
 ghost use Rattle.bus_law_messages.specs.Commands.{LeavesWhole};
+ghost use Rattle.bus_law_messages.specs.Answers.{AnswerDue, LeavesNothing, AnswerOver};
 ghost use Rattle.bus_law_messages.specs.Ends.{burst_sent, CommandOver, IsUnanswered};
 
 /// A message that expects no answer, and that no terminal answers, as a broadcast: its command is shown alone, every other station obeys it or passes
@@ -38,4 +42,23 @@ pub fn a_message_without_answer_is_sent()
         × (after ≡ record { shown = ticks ++ before.shown; driven = silent ++ (sent ++ before.driven) })
         × Settled k plan loads outside absent after place holder
         × (course_after k holder (starts plan holder) loads outside after.shown ≡ close c begun (without_words Sent None None) (t + 40 * length words + k)) }
+{}
+
+/// From the tick in which the only answer of a message is due: its terminal sends it alone, and k ticks after its end the message ends Clear with
+/// the status and the data words that it brought, if they are good; the world is settled again, in the same hands, and the terminal that answered
+/// heard nothing of it. At every lag below a slot's forty ticks, for any loads, with any stations absent.
+pub fn a_good_answer_clears_its_message()
+    ensures { (k : ℕ) (plan : PlanData) (loads : List TimedLoad) (outside : List OutsideTake) (absent : List ℕ) (t place : ℕ) (holder : StationData)
+        (begun : Begun) (e answerer : ℕ) (answering : StationData) (words : List Word) (hits : List Hit) (status : ℕ) → k < 40 →
+        let before : Trace = trace k plan loads outside absent t in
+        let after : Trace = trace k plan loads outside absent (t + (40 * length words + suc k)) in
+        AnswerDue k plan loads outside absent before place holder begun e answerer answering words →
+        NoneTakes k plan loads outside place t (t + (40 * length words + suc k)) → LeavesWhole plan.faults First before.driven hits words →
+        0 < length words → added_by hits ≡ 0 → read_answer begun.entry.item.kind First (slots_shown hits 0 words) 0 ≡ Good status →
+        (answers_of begun.entry.item.kind).second ≡ None →
+        LeavesNothing k plan loads outside absent before.shown place answerer begun.state.channel (burst_sent t hits words) →
+        (ticks : List Pair) × (sent : List (List Drive)) × (silent : List (List Drive))
+        × AnswerOver k plan loads outside absent before place holder begun answerer words hits status t ticks sent silent
+        × (after ≡ record { shown = ticks ++ before.shown; driven = silent ++ (sent ++ before.driven) })
+        × Settled k plan loads outside absent after place holder }
 {}

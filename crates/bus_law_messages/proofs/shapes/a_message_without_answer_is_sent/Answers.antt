@@ -1,5 +1,3 @@
-use Rattle.bus_law_messages.proofs.Answering.{serving-after}
-use Rattle.bus_law_messages.proofs.Waiting.{clear-course}
 use Rattle.bus_law_messages.proofs.Unanswered.{message-sent}
 use Rattle.bus_law_messages.proofs.shapes.a_message_without_answer_is_sent.Goals as goal
 
