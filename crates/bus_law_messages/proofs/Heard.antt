@@ -1,5 +1,5 @@
 -- A serving station, free before, where the end of another station's burst becomes known: its terminal obeys it or passes it over.
-use Rattle.std.proofs.Common.{◌≡◌, inl, inr, ℕ, suc, ◌+◌, ◌*◌, ◌<◌, ◌≤◌, Bool, true, false, List, [], ◌∷◌, ◌++◌, length, Option, Some, None, refl, sym, ap, ◌∙◌, arith, length-append}
+use Rattle.std.proofs.Common.{◌≡◌, inl, inr, ℕ, suc, ◌+◌, ◌*◌, ◌<◌, ◌≤◌, Bool, true, false, List, [], ◌∷◌, ◌++◌, length, Option, Some, None, refl, sym, ap, ◌∙◌, subst, arith, length-append}
 use Rattle.std.proofs.lemmas.Bool.Decides.{nat_tests}
 use Rattle.std.proofs.lemmas.List.{append_assoc}
 use Rattle.std.proofs.lemmas.Option.{none-some, same_Some}
@@ -26,12 +26,15 @@ use Rattle.bus_law_line.specs.Shown.{struck_of, struck_spelling}
 use Rattle.bus_law_line.specs.Senders.{AreHeard}
 use Rattle.bus_law_line.proofs.Rows.{ended-row}
 use Rattle.bus_law_line.proofs.WordSlots.{slots-sent}
-use Rattle.bus_law_stations.specs.Legs.{with_addressed, IsUnheeded, obeyed_in, after_command}
+use Rattle.bus_law_stations.specs.Legs.{BeginsAnswer, with_addressed, IsUnheeded, obeyed_in, after_command}
 use Rattle.bus_law_stations.specs.Turns.{moments_of, TakesNothing}
 use Rattle.bus_law_stations.proofs.BurstEnds.{obeyed, passed}
+use Rattle.bus_law_stations.proofs.Due.{obeyed-due}
+use Rattle.bus_law_stations.specs.Silence.{quiet_moments}
+use Rattle.bus_base.specs.declared.samples.Part.TheVariants.{First}
 use Rattle.bus_law_stations.proofs.LegTicks.{heard-append}
 use Rattle.bus_law_stations.proofs.Obeying.{running-marks}
-use Rattle.bus_law_stations.proofs.Resting.{heard-long}
+use Rattle.bus_law_stations.proofs.Resting.{heard-long, rests-quiet}
 use Rattle.bus_law_stations.proofs.Turning.{serving-hears, serving-same}
 use Rattle.bus_law_stations.proofs.Unheeded.{quiet-unheeded}
 use Rattle.bus_law_messages.specs.Settled.{IsFree, IsServing}
@@ -141,6 +144,19 @@ module _ (k : ℕ) (t : TerminalData) (loads : List TimedLoad) (memory : Memory)
       passed k t loads memory c heard ticks now burst (free-ready k t s c heard frees) beside ended
       (free-hears k t s c heard ticks frees leg before-quiet) small last frees.promise
 
+  -- what the answer that it owes waits for
+  pub end-due : (order : Order) → last_order t.address burst.slots ≡ Some order → (mays : List Bool) →
+      let o : Obeyed = obeyed_in t loads (length (ticks ++ heard)) s c order (rest_of burst) now.may in
+      let later : List Moment = quiet_moments mays ++ (now ∷ (ticks ++ heard)) in
+      length later ≡ due_after t (end_of burst) → is_owed o.duty ≡ true →
+      BeginsAnswer k t (standing k t loads memory later) c later × ((standing k t loads memory later).duty ≡ o.duty)
+      × ((standing k t loads memory later).part ≡ First)
+  end-due order last mays long owed =
+      obeyed-due k t loads memory c heard ticks now burst order mays small (free-ready k t s c heard frees)
+      (free-hears k t s c heard ticks frees leg before-quiet) beside ended last owed
+      (ap (runs k) (heard-append (other_of c) (now ∷ ticks) heard ∙ ap (λ xs. xs ++ heard_on (other_of c) heard) quiet)
+      ∙ rests-quiet k (length (now ∷ ticks)) (heard_on (other_of c) heard) (frees.rests (other_of c))) long
+
 -- ---- a serving station
 
 module _ (k : ℕ) (station : StationData) (starts : Bool) (loads : List TimedLoad) (outside : List OutsideTake) (past : List Pair) (c : Channel)
@@ -215,6 +231,17 @@ module _ (k : ℕ) (station : StationData) (starts : Bool) (loads : List TimedLo
               ∙ e.4
               ∙ ap (λ tick. (obeyed_in t loads tick s c order (rest_of burst) (has_items course.left)).taken) handled-at,
         );
+    due = λ order last mays.
+        let s = standing_after k t loads hearing in
+        let o : ℕ → Obeyed = λ tick. obeyed_in t loads tick s c order (rest_of burst) (has_items course.left) in
+        let Begins : Hearing → ℕ → Type 0 = λ h tick. length (quiet_moments mays ++ h.ticks) ≡ due_after t (end_of burst) → is_owed (o tick).duty ≡ true →
+        BeginsAnswer k t (standing k t loads h.memory (quiet_moments mays ++ h.ticks)) c (quiet_moments mays ++ h.ticks)
+        × ((standing k t loads h.memory (quiet_moments mays ++ h.ticks)).duty ≡ (o tick).duty)
+        × ((standing k t loads h.memory (quiet_moments mays ++ h.ticks)).part ≡ First) in
+        subst (λ h. Begins h (end_of burst + k)) (sym end-hearing)
+        (subst (λ tick. Begins record { memory = hearing.memory; ticks = moment_of x course ∷ (moments ++ hearing.ticks) } tick) handled-at
+        (end-due k t loads hearing.memory c hearing.ticks moments (moment_of x course) burst small serving.free end-leg end-quiet end-burst
+        (sym (hearing-long k station starts loads outside past)) order last mays));
     passed = λ last.
         let e = end-passed k t loads hearing.memory c hearing.ticks moments (moment_of x course) burst small serving.free end-leg end-quiet end-burst
         (sym (hearing-long k station starts loads outside past)) last in

@@ -11,3 +11,4 @@ pub mod Beginning
 pub mod Answering
 pub mod Waiting
 pub mod Answered
+pub mod Owing

@@ -2,7 +2,7 @@
 use Rattle.std.proofs.Common.{◌≡◌, ◌≢◌, inl, inr, ℕ, zero, suc, ◌+◌, ◌-◌, ◌<◌, ◌≤◌, Bool, true, false, List, [], ◌∷◌, ◌++◌, length, refl, sym, ap, ◌∙◌, subst, arith}
 use Rattle.std.proofs.lemmas.Bool.{cases_eq, true≢false}
 use Rattle.std.proofs.lemmas.Option.{none-some}
-use Rattle.std.specs.Prelude.{not}
+use Rattle.std.specs.Prelude.{None, not}
 use Rattle.bus_base.specs.Samples.{sample_on, same_channel}
 use Rattle.bus_base.specs.declared.samples.Channel.{Channel}
 use Rattle.bus_base.specs.declared.samples.Channel.TheVariants.{A, B}
@@ -25,13 +25,13 @@ use Rattle.bus_model.specs.Course.{Course, quiet_from}
 use Rattle.bus_model.specs.Control.{OutsideTake, StationSoFar, yielded_in, outside_takes, so_far, course_after, hearing_after, drives_next}
 use Rattle.bus_model.specs.World.{Trace, trace, drives_after, next_tick, ticks_on}
 use Rattle.bus_law_line.specs.Shown.{shown_of}
-use Rattle.bus_law_line.specs.Senders.{LeftAlone}
+use Rattle.bus_law_line.specs.Senders.{IsSpent, LeftAlone}
 use Rattle.bus_law_line.proofs.Sent.{left-spent}
 use Rattle.bus_law_stations.specs.Silence.{quiet_pair, quiet_pairs, quiet_moments, NothingStarts, StationRests}
 use Rattle.bus_law_stations.specs.Turns.{KeepsControl}
 use Rattle.bus_law_stations.proofs.Ready.{three-first}
 use Rattle.bus_law_stations.proofs.Resting.{heard-quiet, rests-quiet}
-use Rattle.bus_law_stations.proofs.StillController.{pairs-long, still-course, still-drive}
+use Rattle.bus_law_stations.proofs.StillController.{pairs-long, fewer, still-course, still-drive}
 use Rattle.bus_law_stations.proofs.StillStation.{always-taken, still-so-far, still-after, still-terminal, still-quiet}
 use Rattle.bus_law_stations.proofs.Turning.{holding-course, holding-sends}
 use Rattle.bus_law_messages.specs.Settled.{IsFree, InControl, IsServing, Settled, NoneTakes, NoneStarts}
@@ -41,7 +41,7 @@ use Rattle.bus_law_messages.proofs.Unanswered.{free-still, trace-later}
 
 -- ---- channels
 
-on-quiet : (d : Channel) (n : ℕ) (past : List Pair) → on_channel d (quiet_pairs n ++ past) ≡ quiet_ticks n ++ on_channel d past
+pub on-quiet : (d : Channel) (n : ℕ) (past : List Pair) → on_channel d (quiet_pairs n ++ past) ≡ quiet_ticks n ++ on_channel d past
 on-quiet d zero past = refl
 on-quiet A (suc n) past = ap (λ xs. Quiet ∷ xs) (on-quiet A n past)
 on-quiet B (suc n) past = ap (λ xs. Quiet ∷ xs) (on-quiet B n past)
@@ -60,43 +60,39 @@ quiet-shown faults driven a b =
 -- ---- the station in control
 
 module _ (k : ℕ) (station : StationData) (starts : Bool) (loads : List TimedLoad) (outside : List OutsideTake) (past : List Pair)
-    (controls : InControl (course_after k station starts loads outside past) (length past)) where
+    (holds : (course_after k station starts loads outside past).holds ≡ true)
+    (before : (tick : ℕ) → length past ≤ tick → yielded_in tick (course_after k station starts loads outside past).ended ≡ false) where
   abbrev course : Course
   course = course_after k station starts loads outside past
 
-  nothing-starts : (n : ℕ) → NoneStarts course past n → NothingStarts k course past n
-  nothing-starts n none =
-      record { waits = λ begun runs. absurd (none-some begun (sym controls.idle ∙ runs)); starts = λ idle holds entry later left. none entry later left }
-
-  fewer-start : (n : ℕ) → NoneStarts course past (suc n) → NoneStarts course past n
-  fewer-start n none = λ entry later left. let late = none entry later left in omega (arith, late)
-
-  keeps-quiet : (n : ℕ) → NoneStarts course past n → KeepsControl k station starts loads outside past (quiet_pairs n)
+  keeps-quiet : (n : ℕ) → NothingStarts k course past n → KeepsControl k station starts loads outside past (quiet_pairs n)
   keeps-quiet zero none = tt
   keeps-quiet (suc n) none =
       let takes = (so_far k station starts loads outside past).takes in
       let taken = always-taken k station starts loads outside past in
       let long : length (quiet_pairs n ++ past) ≡ n + length past = pairs-long n past in (
-        ap (λ (c : Course). c.holds) (still-course k station starts takes past n taken (nothing-starts n (fewer-start n none))) ∙ controls.holds,
-        ap (λ (c : Course). yielded_in (length (quiet_pairs n ++ past)) c.ended)
-            (still-course k station starts takes past (suc n) taken (nothing-starts (suc n) none))
-            ∙ controls.before (length (quiet_pairs n ++ past)) (omega (arith, long)),
-        keeps-quiet n (fewer-start n none),
+        ap (λ (c : Course). c.holds) (still-course k station starts takes past n taken (fewer k course past n none)) ∙ holds,
+        ap (λ (c : Course). yielded_in (length (quiet_pairs n ++ past)) c.ended) (still-course k station starts takes past (suc n) taken none)
+            ∙ before (length (quiet_pairs n ++ past)) (omega (arith, long)),
+        keeps-quiet n (fewer k course past n none),
       )
 
-  pub same-course : (n : ℕ) → NoneStarts course past n → course_after k station starts loads outside (quiet_pairs n ++ past) ≡ course
+  pub same-course : (n : ℕ) → NothingStarts k course past n → course_after k station starts loads outside (quiet_pairs n ++ past) ≡ course
   same-course n none =
       holding-course k station starts loads outside past (quiet_pairs n) (keeps-quiet n none)
-      ∙ still-course k station starts (so_far k station starts loads outside past).takes past n (always-taken k station starts loads outside past)
-      (nothing-starts n none)
+      ∙ still-course k station starts (so_far k station starts loads outside past).takes past n (always-taken k station starts loads outside past) none
 
-  pub holder-silent : (n : ℕ) → NoneStarts course past (suc n) → drives_next k station starts loads outside (quiet_pairs n ++ past) ≡ Silent
+  pub holder-silent : (n : ℕ) → NothingStarts k course past (suc n) → drives_next k station starts loads outside (quiet_pairs n ++ past) ≡ Silent
   holder-silent n none =
-      let less = fewer-start n none in
+      let less = fewer k course past n none in
       holding-sends k station starts loads outside past (quiet_pairs n) (keeps-quiet n less)
-      (ap (λ (c : Course). c.holds) (same-course n less) ∙ controls.holds)
-      ∙ still-drive k station starts (so_far k station starts loads outside past).takes past n (always-taken k station starts loads outside past)
-      (nothing-starts (suc n) none)
+      (ap (λ (c : Course). c.holds) (same-course n less) ∙ holds)
+      ∙ still-drive k station starts (so_far k station starts loads outside past).takes past n (always-taken k station starts loads outside past) none
+
+-- one that rests
+pub nothing-starts : (k : ℕ) (c : Course) (past : List Pair) (n : ℕ) → c.runs ≡ None → NoneStarts c past n → NothingStarts k c past n
+nothing-starts k c past n idle none =
+    record { waits = λ begun runs. absurd (none-some begun (sym idle ∙ runs)); starts = λ still holds entry later left. none entry later left }
 
 -- ---- a serving station
 
@@ -151,44 +147,24 @@ module _ (k : ℕ) (station : StationData) (starts : Bool) (loads : List TimedLo
 
 -- ---- the world
 
-module _ (k : ℕ) (plan : PlanData) (loads : List TimedLoad) (outside : List OutsideTake) (absent : List ℕ) (before : Trace) (place : ℕ)
-    (holder : StationData) (settled : Settled k plan loads outside absent before place holder) where
-  abbrev course_of : Course
-  course_of = course_after k holder (starts plan holder) loads outside before.shown
-
-  abbrev Stays : ℕ → Type 0
-  Stays n = NoneTakes k plan loads outside place (length before.shown) (length before.shown + n)
-
+module _ (k : ℕ) (plan : PlanData) (loads : List TimedLoad) (outside : List OutsideTake) (absent : List ℕ) (before : Trace) (limit : ℕ)
+    (spent : (c : Channel) (station : ℕ) → IsSpent plan.faults c before.driven station)
+    (silent : (n : ℕ) → n < limit → (station : ℕ) →
+    station_drive station (drives_after k plan loads outside absent (quiet_pairs n ++ before.shown)) ≡ Silent) where
   abbrev now : ℕ → List Drive
   now n = drives_after k plan loads outside absent (quiet_pairs n ++ before.shown)
 
-  others-quiet : (n : ℕ) → Stays (suc n) → (other : ℕ) → other ≢ place → station_drive other (now n) ≡ Silent
-  others-quiet n stays other apart =
-      place-silent k plan loads outside absent (quiet_pairs n ++ before.shown) other (λ station there present.
-      serving-quiet k station (starts plan station) loads outside before.shown (settled.others other station there apart present) n
-      (λ tick low high. stays other station there apart tick low high))
-
-  all-quiet : (n : ℕ) → Stays (suc n) → NoneStarts course_of before.shown (suc n) → (station : ℕ) → station_drive station (now n) ≡ Silent
-  all-quiet n stays none station = elim (cases_eq station place) [
-    | inl same ↦ ap (λ i. station_drive i (now n)) same
-        ∙ ap drive_or (place-drives k plan loads outside absent (quiet_pairs n ++ before.shown) place holder Silent settled.there settled.present
-        (holder-silent k holder (starts plan holder) loads outside before.shown settled.controls n none))
-    | inr apart ↦ others-quiet n stays station apart
-  ]
-
-  abbrev Paused : ℕ → List (List Drive) → Type 0
-  Paused n silent = (ticks_on k plan loads outside absent before n ≡ record { shown = quiet_pairs n ++ before.shown; driven = silent ++ before.driven })
-      × ((d : Channel) → LeftAlone plan.faults d before.driven silent)
-
-  pub paused : (n : ℕ) → Stays n → NoneStarts course_of before.shown n → (silent : List (List Drive)) × Paused n silent
+  -- so many ticks in which every station is silent
+  pub paused : (n : ℕ) → n ≤ limit → (silent : List (List Drive))
+      × ((ticks_on k plan loads outside absent before n ≡ record { shown = quiet_pairs n ++ before.shown; driven = silent ++ before.driven })
+      × ((d : Channel) → LeftAlone plan.faults d before.driven silent))
   unfolding ticks_on
-  paused zero stays none = ([], (refl, λ d. record { undriven = tt; spent = settled.spent d }))
-  paused (suc n) stays none =
-      let p = paused n (λ other station there apart tick low high. stays other station there apart tick low (omega (arith, high)))
-      (λ entry later left. let late = none entry later left in omega (arith, late)) in
-      let silent = all-quiet n stays none in
+  paused zero early = ([], (refl, λ d. record { undriven = tt; spent = spent d }))
+  paused (suc n) early =
+      let p = paused n (omega (arith, early)) in
+      let none = silent n (omega (arith, early)) in
       let left : (d : Channel) → LeftAlone plan.faults d before.driven (now n ∷ p.0) =
-      λ d. record { undriven = (λ station. ap (drives_on d) (silent station), (p.1.1 d).undriven); spent = settled.spent d } in
+      λ d. record { undriven = (λ station. ap (drives_on d) (none station), (p.1.1 d).undriven); spent = spent d } in
       let shows : shown plan.faults ((now n ∷ p.0) ++ before.driven) ≡ quiet_pair =
       quiet-shown plan.faults ((now n ∷ p.0) ++ before.driven) (quiet-pair plan.faults A before.driven p.0 (now n) (left A))
       (quiet-pair plan.faults B before.driven p.0 (now n) (left B)) in (
@@ -200,20 +176,40 @@ module _ (k : ℕ) (plan : PlanData) (loads : List TimedLoad) (outside : List Ou
         ),
       )
 
-  undriven-still : (silent : List (List Drive)) → ((d : Channel) → LeftAlone plan.faults d before.driven silent) → (d : Channel) (station : ℕ) →
+  pub undriven-still : (silent : List (List Drive)) → ((d : Channel) → LeftAlone plan.faults d before.driven silent) →
+      ((c : Channel) (station : ℕ) → drives_on c (station_drive station (newest_drives before.driven)) ≡ false) → (d : Channel) (station : ℕ) →
       drives_on d (station_drive station (newest_drives (silent ++ before.driven))) ≡ false
-  undriven-still [] left d station = settled.undriven d station
-  undriven-still (drives ∷ silent) left d station = (left d).undriven.0 station
+  undriven-still [] left undriven d station = undriven d station
+  undriven-still (drives ∷ silent) left undriven d station = (left d).undriven.0 station
 
-  pub settled-still : (n : ℕ) (silent : List (List Drive)) → Stays n → NoneStarts course_of before.shown n →
-      ((d : Channel) → LeftAlone plan.faults d before.driven silent) →
+module _ (k : ℕ) (plan : PlanData) (loads : List TimedLoad) (outside : List OutsideTake) (absent : List ℕ) (before : Trace) (place : ℕ)
+    (holder : StationData) (n : ℕ) (settled : Settled k plan loads outside absent before place holder)
+    (none : NoneStarts (course_after k holder (starts plan holder) loads outside before.shown) before.shown n)
+    (stays : NoneTakes k plan loads outside place (length before.shown) (length before.shown + n)) where
+  nothing : (m : ℕ) → m ≤ n → NothingStarts k (course_after k holder (starts plan holder) loads outside before.shown) before.shown m
+  nothing m few =
+      nothing-starts k (course_after k holder (starts plan holder) loads outside before.shown) before.shown m settled.controls.idle
+      (λ entry later left. let late = none entry later left in omega (arith, late, few))
+
+  pub all-quiet : (m : ℕ) → m < n → (station : ℕ) → station_drive station (drives_after k plan loads outside absent (quiet_pairs m ++ before.shown)) ≡ Silent
+  all-quiet m few station = elim (cases_eq station place) [
+    | inl same ↦ ap (λ i. station_drive i (drives_after k plan loads outside absent (quiet_pairs m ++ before.shown))) same
+        ∙ ap drive_or (place-drives k plan loads outside absent (quiet_pairs m ++ before.shown) place holder Silent settled.there settled.present
+        (holder-silent k holder (starts plan holder) loads outside before.shown settled.controls.holds settled.controls.before m (nothing (suc m) few)))
+    | inr apart ↦ place-silent k plan loads outside absent (quiet_pairs m ++ before.shown) station (λ other there present.
+        serving-quiet k other (starts plan other) loads outside before.shown (settled.others station other there apart present) m
+        (λ tick low high. stays station other there apart tick low (omega (arith, high, few))))
+  ]
+
+  pub settled-still : (silent : List (List Drive)) → ((d : Channel) → LeftAlone plan.faults d before.driven silent) →
       Settled k plan loads outside absent record { shown = quiet_pairs n ++ before.shown; driven = silent ++ before.driven } place holder
-  settled-still n silent stays none left =
-      let same = same-course k holder (starts plan holder) loads outside before.shown settled.controls n none in
+  settled-still silent left =
+      let same = same-course k holder (starts plan holder) loads outside before.shown settled.controls.holds settled.controls.before n
+      (nothing n (omega arith)) in
       let long : length (quiet_pairs n ++ before.shown) ≡ n + length before.shown = pairs-long n before.shown in
       record {
         rests = λ d. ap (runs k) (on-quiet d n before.shown) ∙ rests-quiet k n (on_channel d before.shown) (settled.rests d);
-        undriven = undriven-still silent left;
+        undriven = undriven-still k plan loads outside absent before n settled.spent all-quiet silent left settled.undriven;
         spent = λ d station. left-spent plan.faults d before.driven silent (left d) station;
         there = settled.there;
         present = settled.present;
@@ -238,12 +234,14 @@ pause k plan loads outside absent t place holder n settled none stays =
     let long : length before.shown ≡ t = shown-long k plan loads outside absent t in
     let here : NoneTakes k plan loads outside place (length before.shown) (length before.shown + n) =
     λ other station there apart tick low high. stays other station there apart tick (omega (arith, low, long)) (omega (arith, high, long)) in
-    let p = paused k plan loads outside absent before place holder settled n here none in
+    let p = paused k plan loads outside absent before n settled.spent (all-quiet k plan loads outside absent before place holder n settled none here) n
+    (omega arith) in
     let later = sym (trace-later k plan loads outside absent t n) ∙ p.1.0 in (
       ap (λ (tr : Trace). tr.shown) later,
       subst (λ tr. Settled k plan loads outside absent tr place holder) (sym later)
-          (settled-still k plan loads outside absent before place holder settled n p.0 here none p.1.1),
+          (settled-still k plan loads outside absent before place holder n settled none here p.0 p.1.1),
       ap (λ (tr : Trace). course_after k holder (starts plan holder) loads outside tr.shown) later
-          ∙ same-course k holder (starts plan holder) loads outside before.shown settled.controls n none,
+          ∙ same-course k holder (starts plan holder) loads outside before.shown settled.controls.holds settled.controls.before n
+          (nothing-starts k (course_after k holder (starts plan holder) loads outside before.shown) before.shown n settled.controls.idle none),
       ap (λ (tr : Trace). quiet_from tr.shown) later ∙ from-quiet n before.shown,
     )

@@ -3,6 +3,7 @@ use Rattle.std.specs.Prelude.{◌≡◌, ◌≢◌, ℕ, suc, ◌+◌, ◌*◌, 
 use Rattle.bus_base.specs.declared.samples.Channel.{Channel}
 use Rattle.bus_base.specs.declared.samples.Drive.{Drive}
 use Rattle.bus_base.specs.declared.samples.Pair.{Pair}
+use Rattle.bus_base.specs.declared.samples.Part.TheVariants.{First}
 use Rattle.bus_words.specs.declared.word.Word.{Word}
 use Rattle.bus_line.specs.Past.{Burst, end_of, rest_of}
 use Rattle.bus_line.specs.Channels.{on_channel}
@@ -12,17 +13,18 @@ use Rattle.bus_formats.specs.declared.fault.Hit.{Hit}
 use Rattle.bus_formats.specs.declared.form.Outcome.TheVariants.{Sent}
 use Rattle.bus_formats.specs.declared.form.Shape.{Shape}
 use Rattle.bus_model.specs.Memory.{TimedLoad}
-use Rattle.bus_model.specs.Orders.{Obeyed, free, Order, last_order}
-use Rattle.bus_model.specs.Standing.{Standing}
-use Rattle.bus_model.specs.Terminal.{standing_after, took_now}
+use Rattle.bus_model.specs.Orders.{Obeyed, free, Order, last_order, due_after}
+use Rattle.bus_model.specs.Standing.{Standing, is_owed}
+use Rattle.bus_model.specs.Hearing.{Moment, Hearing}
+use Rattle.bus_model.specs.Terminal.{standing, standing_after, took_now}
 use Rattle.bus_model.specs.Starts.{has_items, starts}
 use Rattle.bus_model.specs.Attempts.{Begun, without_words}
 use Rattle.bus_model.specs.Course.{close}
 use Rattle.bus_model.specs.Control.{OutsideTake, course_after, hearing_after}
 use Rattle.bus_model.specs.World.{Trace, is_present}
 use Rattle.bus_law_line.specs.Shown.{slots_shown}
-use Rattle.bus_law_stations.specs.Silence.{AwaitsFirst}
-use Rattle.bus_law_stations.specs.Legs.{obeyed_in, after_command}
+use Rattle.bus_law_stations.specs.Silence.{quiet_moments, AwaitsFirst}
+use Rattle.bus_law_stations.specs.Legs.{BeginsAnswer, obeyed_in, after_command}
 use Rattle.bus_law_stations.specs.Messages.{with_running}
 use Rattle.bus_law_stations.specs.Turns.{moments_of}
 use Rattle.bus_law_messages.specs.Commands.{command_sender, WordsEnd}
@@ -49,6 +51,16 @@ pub record HeardCommand (k : ℕ) (station : StationData) (starts : Bool) (loads
       (slot_end : ℕ)
       × (standing_after k station.terminal loads (hearing_after k station starts loads outside (ticks ++ past)) ≡ after_command s c (end_of burst) slot_end o)
       × (took_now k station.terminal loads (hearing_after k station starts loads outside (ticks ++ past)) ≡ o.taken)
+  -- an answer that this leaves begins when it is due, after quiet ticks, as the first one of the message
+  pub due : (order : Order) → last_order station.terminal.address burst.slots ≡ Some order → (mays : List Bool) →
+      let o : Obeyed = obeyed_in station.terminal loads (end_of burst + k)
+      (standing_after k station.terminal loads (hearing_after k station starts loads outside past)) c order (rest_of burst)
+      (has_items (course_after k station starts loads outside past).left) in
+      let h : Hearing = hearing_after k station starts loads outside (ticks ++ past) in
+      let later : List Moment = quiet_moments mays ++ h.ticks in
+      length later ≡ due_after station.terminal (end_of burst) → is_owed o.duty ≡ true →
+      BeginsAnswer k station.terminal (standing k station.terminal loads h.memory later) c later
+      × ((standing k station.terminal loads h.memory later).duty ≡ o.duty) × ((standing k station.terminal loads h.memory later).part ≡ First)
   -- and without one nothing changes
   pub passed : last_order station.terminal.address burst.slots ≡ None →
       (standing_after k station.terminal loads (hearing_after k station starts loads outside (ticks ++ past))

@@ -10,4 +10,4 @@ pub mod shapes;
 
 pub use commands::{a_command_is_sent_alone, a_sent_command_is_heard};
 pub use pauses::{the_world_begins_settled, the_world_pauses_until_a_message_starts};
-pub use shapes::{a_good_answer_clears_its_message, a_message_without_answer_is_sent};
+pub use shapes::{a_good_answer_clears_its_message, a_message_without_answer_is_sent, an_answer_comes_due};

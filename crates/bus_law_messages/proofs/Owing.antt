@@ -1,0 +1,362 @@
+-- After a command that one terminal is to answer the world is silent, until that answer is due.
+use Rattle.std.proofs.Common.{◌≡◌, ◌≢◌, ◌⊎◌, inl, inr, ℕ, zero, suc, ◌+◌, ◌*◌, ◌<◌, ◌≤◌, Bool, true, false, List, [], ◌∷◌, ◌++◌, length, Option, Some, None, refl, sym, ap, ◌∙◌, subst, arith, length-append}
+use Rattle.std.proofs.lemmas.Bool.{cases_eq, true≢false}
+use Rattle.std.proofs.lemmas.Option.{same_Some, none-some}
+use Rattle.std.specs.Prelude.{slice_get, not, nat_lt, if◌then◌else◌}
+use Rattle.bus_base.specs.Samples.{other_of, same_channel}
+use Rattle.bus_base.specs.declared.samples.Channel.{Channel}
+use Rattle.bus_base.specs.declared.samples.Channel.TheVariants.{A, B}
+use Rattle.bus_base.specs.declared.samples.Drive.{Drive}
+use Rattle.bus_base.specs.declared.samples.Drive.TheVariants.{Silent}
+use Rattle.bus_base.specs.declared.samples.Pair.{Pair}
+use Rattle.bus_base.specs.declared.samples.Part.TheVariants.{Command, First}
+use Rattle.bus_base.specs.declared.samples.Sample.{Sample}
+use Rattle.bus_base.specs.declared.samples.Sample.TheVariants.{Quiet}
+use Rattle.bus_words.specs.declared.word.Word.{Word}
+use Rattle.bus_line.specs.Past.{Burst, quiet_ticks, runs, end_of, rest_of, heard_or_now, first_heard}
+use Rattle.bus_line.specs.Channels.{on_channel}
+use Rattle.bus_line.proofs.ChannelLaws.{on-append}
+use Rattle.bus_line.proofs.EndLaws.{end_since-later}
+use Rattle.bus_formats.specs.Forms.{answers_of, command_words}
+use Rattle.bus_formats.specs.Plans.{TerminalData, StationData, PlanData}
+use Rattle.bus_formats.specs.Times.{no_response}
+use Rattle.bus_formats.specs.declared.fault.Hit.{Hit}
+use Rattle.bus_formats.specs.declared.form.Shape.{Shape}
+use Rattle.bus_model.specs.Memory.{TimedLoad}
+use Rattle.bus_model.specs.Orders.{Obeyed, Order, last_order, owes, due_after}
+use Rattle.bus_model.specs.Hearing.{Moment, Hearing, heard_on}
+use Rattle.bus_model.specs.Standing.{Standing, mark_on, ignored_from, is_owed, is_promise, superseded, promised_on}
+use Rattle.bus_model.specs.Starts.{Entry, starts, has_items}
+use Rattle.bus_model.specs.Terminal.{standing, standing_after}
+use Rattle.bus_model.specs.Strikes.{added_by}
+use Rattle.bus_model.specs.Transmissions.{drive_or, station_drive}
+use Rattle.bus_model.specs.Attempts.{Begun}
+use Rattle.bus_model.specs.Course.{Course}
+use Rattle.bus_model.specs.Control.{OutsideTake, StationSoFar, yielded_in, outside_takes, course_after, hearing_after, so_far}
+use Rattle.bus_model.specs.World.{Trace, trace, is_present, drives_after, ticks_on}
+use Rattle.bus_law_line.specs.Senders.{IsSpent, LeftAlone}
+use Rattle.bus_law_line.proofs.Sent.{left-spent}
+use Rattle.bus_law_stations.specs.Silence.{quiet_pairs, quiet_moments, AwaitsFirst, NothingStarts, StationRests}
+use Rattle.bus_law_stations.specs.Legs.{BeginsAnswer, obeyed_in, after_command}
+use Rattle.bus_law_stations.specs.Messages.{BeginsMessage, message_begun, with_running}
+use Rattle.bus_law_stations.specs.Turns.{moments_of}
+use Rattle.bus_law_stations.proofs.LegTicks.{heard-append, heeded-later}
+use Rattle.bus_law_stations.proofs.Ready.{three-first}
+use Rattle.bus_law_stations.proofs.Resting.{heard-quiet, rests-quiet}
+use Rattle.bus_law_stations.proofs.StillController.{pairs-long}
+use Rattle.bus_law_stations.proofs.StillStation.{still-so-far, still-after, still-terminal, still-quiet}
+use Rattle.bus_law_messages.specs.Settled.{IsServing, Settled, NoneTakes}
+use Rattle.bus_law_messages.specs.Commands.{LeavesWhole}
+use Rattle.bus_law_messages.specs.Ends.{burst_sent, HeardCommand, CommandOver}
+use Rattle.bus_law_messages.specs.Answers.{IsWaiting, IsAnswering, AnswerDue, LeavesNothing}
+use Rattle.bus_law_messages.proofs.Listening.{moments-shown}
+use Rattle.bus_law_messages.proofs.Sending.{place-silent, place-drives, shown-long}
+use Rattle.bus_law_messages.proofs.Over.{over-at}
+use Rattle.bus_law_messages.proofs.Heard.{hearing-long}
+use Rattle.bus_law_messages.proofs.Unanswered.{first-silent, rests-both, serving-again, trace-later}
+use Rattle.bus_law_messages.proofs.Pausing.{on-quiet, same-course, holder-silent, serving-still, serving-quiet, paused, undriven-still}
+
+-- ---- a message that waits goes on waiting
+
+heard-not : (b : Bool) (o : Option ℕ) → o ≡ None → (if b then None else o) ≡ None
+heard-not true o none = refl
+heard-not false o none = none
+
+unheard-quiet : (n : ℕ) (past : List Sample) (e : ℕ) → first_heard past e ≡ None → first_heard (quiet_ticks n ++ past) e ≡ None
+unfolding first_heard
+unheard-quiet zero past e none = none
+unheard-quiet (suc n) past e none =
+    let xs = quiet_ticks n ++ past in
+    heard-not (nat_lt (length xs) e) (heard_or_now Quiet (length xs) (first_heard xs e)) (ap (heard_or_now Quiet (length xs)) (unheard-quiet n past e none))
+
+awaits-quiet : (k : ℕ) (begun : Begun) (n : ℕ) (past : List Sample) (e : ℕ) → AwaitsFirst k begun past e → AwaitsFirst k begun (quiet_ticks n ++ past) e
+awaits-quiet k begun n past e w = record {
+  ended = end_since-later k (quiet_ticks n) past begun.start e w.ended;
+  shape = w.shape;
+  expects = w.expects;
+  silent = unheard-quiet n past e w.silent;
+}
+
+module _ (k : ℕ) (plan : PlanData) (loads : List TimedLoad) (outside : List OutsideTake) (absent : List ℕ) (before : Trace) (place : ℕ)
+    (holder : StationData) (begun : Begun) (hits : List Hit) (ticks : List Pair) (sent silent : List (List Drive))
+    (long : length before.shown ≡ begun.start) (settled : Settled k plan loads outside absent before place holder)
+    (over : CommandOver k plan loads outside absent before place holder begun hits ticks sent silent) (shape : Shape)
+    (expects : (answers_of begun.entry.item.kind).first ≡ Some shape) (kept : begun.entry.item.abandon ≡ None)
+    (answerer : ℕ) (answering : StationData) (words : List Word) (apart : answerer ≢ place) (there : slice_get plan.stations answerer ≡ Some answering)
+    (present : is_present absent answering ≡ true) (order : Order)
+    (last : last_order answering.terminal.address (burst_sent begun.start hits (command_words begun.entry.item.kind)).slots ≡ Some order)
+    (owed : (obeyed_in answering.terminal loads (end_of (burst_sent begun.start hits (command_words begun.entry.item.kind)) + k)
+    (standing_after k answering.terminal loads (hearing_after k answering (starts plan answering) loads outside before.shown)) begun.state.channel order
+    (rest_of (burst_sent begun.start hits (command_words begun.entry.item.kind)))
+    (has_items (course_after k answering (starts plan answering) loads outside before.shown).left)).duty ≡ owes words false)
+    (nothing : LeavesNothing k plan loads outside absent before.shown place answerer begun.state.channel
+    (burst_sent begun.start hits (command_words begun.entry.item.kind))) (n : ℕ)
+    (due : end_of (burst_sent begun.start hits (command_words begun.entry.item.kind)) + suc k + n
+    ≡ due_after answering.terminal (end_of (burst_sent begun.start hits (command_words begun.entry.item.kind))))
+    (prompt : suc k + n ≤ no_response)
+    (stays : NoneTakes k plan loads outside place (length (ticks ++ before.shown)) (length (ticks ++ before.shown) + n)) where
+  abbrev c : Channel
+  c = begun.state.channel
+
+  abbrev burst : Burst
+  burst = burst_sent begun.start hits (command_words begun.entry.item.kind)
+
+  abbrev e : ℕ
+  e = end_of burst
+
+  -- the moment in which the command's end is known
+  abbrev mid : Trace
+  mid = record { shown = ticks ++ before.shown; driven = silent ++ (sent ++ before.driven) }
+
+  mid-long : length mid.shown ≡ e + suc k
+  mid-long =
+      let both : length (ticks ++ before.shown) ≡ length ticks + length before.shown = length-append ticks before.shown in
+      omega (arith, both, over.ends.many, long)
+
+  rests-over : (d : Channel) (past : List Sample) → runs k past ≡ false → runs k (on_channel d ticks ++ past) ≡ false
+  rests-over = rests-both k (40 * length (command_words begun.entry.item.kind) + suc k) c _ ticks over.ends.shown over.ends.quiet
+
+  -- ---- the station in control
+
+  abbrev course : Course
+  course = course_after k holder (starts plan holder) loads outside mid.shown
+
+  mid-course : course ≡ with_running (course_after k holder (starts plan holder) loads outside before.shown) begun
+  mid-course = (over.controls.waits shape expects).0
+
+  mid-awaits : AwaitsFirst k begun (on_channel c mid.shown) e
+  mid-awaits = (over.controls.waits shape expects).1
+
+  mid-holds : course.holds ≡ true
+  mid-holds = ap (λ (d : Course). d.holds) mid-course ∙ settled.controls.holds
+
+  mid-runs : course.runs ≡ Some begun
+  mid-runs = ap (λ (d : Course). d.runs) mid-course
+
+  mid-before : (tick : ℕ) → length mid.shown ≤ tick → yielded_in tick course.ended ≡ false
+  mid-before tick late = ap (λ (d : Course). yielded_in tick d.ended) mid-course ∙ settled.controls.before tick (omega (arith, late, mid-long, long))
+
+  waits-on : (m : ℕ) → m ≤ n → NothingStarts k course mid.shown m
+  waits-on m few = record {
+    waits = λ other is. (
+      e,
+      inl (subst (λ b. AwaitsFirst k b (on_channel b.state.channel mid.shown) e) (same_Some begun other (sym mid-runs ∙ is)) mid-awaits),
+      omega (arith, mid-long, few, prompt),
+    );
+    starts = λ idle holds entry later left. absurd (none-some begun (sym idle ∙ mid-runs));
+  }
+
+  waiting : IsWaiting k begun (course_after k holder (starts plan holder) loads outside (quiet_pairs n ++ mid.shown)) (quiet_pairs n ++ mid.shown) e
+  waiting =
+      let same = same-course k holder (starts plan holder) loads outside mid.shown mid-holds mid-before n (waits-on n (omega arith)) in
+      let count : length (quiet_pairs n ++ mid.shown) ≡ n + length mid.shown = pairs-long n mid.shown in
+      record {
+        holds = ap (λ (d : Course). d.holds) same ∙ mid-holds;
+        before = λ tick late. ap (λ (d : Course). yielded_in tick d.ended) same ∙ mid-before tick (omega (arith, late, count));
+        answered = record { runs = ap (λ (d : Course). d.runs) same ∙ mid-runs; prompt = omega (arith, count, mid-long, prompt); kept = kept };
+        awaits = subst (λ xs. AwaitsFirst k begun xs e) (sym (on-quiet c n mid.shown)) (awaits-quiet k begun n (on_channel c mid.shown) e mid-awaits);
+      }
+
+  -- ---- the one that is to answer
+
+  abbrev t : TerminalData
+  t = answering.terminal
+
+  abbrev own : IsServing k answering (starts plan answering) loads outside before.shown
+  own = settled.others answerer answering there apart present
+
+  abbrev heard : HeardCommand k answering (starts plan answering) loads outside before.shown ticks c burst
+  heard = over.others answerer answering there apart present
+
+  abbrev hearing : Hearing
+  hearing = hearing_after k answering (starts plan answering) loads outside mid.shown
+
+  abbrev s : Standing
+  s = standing_after k t loads hearing
+
+  abbrev first : Hearing
+  first = hearing_after k answering (starts plan answering) loads outside before.shown
+
+  abbrev o : Obeyed
+  o = obeyed_in t loads (e + k) (standing_after k t loads first) c order (rest_of burst)
+      (has_items (course_after k answering (starts plan answering) loads outside before.shown).left)
+
+  mid-stands : s ≡ after_command (standing_after k t loads first) c e (heard.obeyed order last).0 o
+  mid-stands = (heard.obeyed order last).1
+
+  mid-duty : s.duty ≡ owes words false
+  mid-duty = ap (λ (u : Standing). u.duty) mid-stands ∙ owed
+
+  mid-heard : (d : Channel) → heard_on d hearing.ticks
+      ≡ on_channel d ticks ++ heard_on d first.ticks
+  mid-heard d =
+      ap (λ (h : Hearing). heard_on d h.ticks) heard.hears
+      ∙ heard-append d (moments_of (course_after k answering (starts plan answering) loads outside before.shown) ticks) first.ticks
+      ∙ ap (λ xs. xs ++ heard_on d first.ticks) (moments-shown d (course_after k answering (starts plan answering) loads outside before.shown) ticks)
+
+  mid-rests : (d : Channel) → runs k (heard_on d hearing.ticks) ≡ false
+  mid-rests d = ap (runs k) (mid-heard d) ∙ rests-over d (heard_on d first.ticks) (own.free.rests d)
+
+  mid-heeds : ignored_from k (heard_on (other_of c) hearing.ticks) (mark_on s.sent (other_of c)) ≡ false
+  mid-heeds =
+      ap (λ (u : Standing). ignored_from k (heard_on (other_of c) hearing.ticks) (mark_on u.sent (other_of c))) mid-stands
+      ∙ ap (λ xs. ignored_from k xs (mark_on (standing_after k t loads first).sent (other_of c))) (mid-heard (other_of c))
+      ∙ heeded-later k (on_channel (other_of c) ticks) (heard_on (other_of c) first.ticks)
+      (mark_on (standing_after k t loads first).sent (other_of c)) (own.free.heeds (other_of c))
+
+  promised-not : promised_on k s s.channel ≡ true → ⊥
+  promised-not made =
+      true≢false (sym made ∙ three-first (is_promise s.duty) (same_channel s.channel s.channel) (not (superseded k s)) (ap is_promise mid-duty))
+
+  owing-rests : (m : ℕ) → m ≤ n → StationRests k answering (starts plan answering) loads outside mid.shown m
+  owing-rests m few =
+      let count : length hearing.ticks ≡ length mid.shown = hearing-long k answering (starts plan answering) loads outside mid.shown in
+      let at : due_after t s.end ≡ due_after t e = ap (λ (u : Standing). due_after t u.end) mid-stands in
+      record {
+        controller = record {
+          waits = λ other is. absurd (none-some other (sym (ap (λ (d : Course). d.runs) heard.course ∙ own.serves.idle) ∙ is));
+          starts = λ idle holds entry later left.
+              absurd (true≢false (sym holds ∙ ap (λ (d : Course). d.holds) heard.course ∙ own.serves.serves));
+        };
+        terminal = record {
+          rests_a = mid-rests A;
+          rests_b = mid-rests B;
+          answer = λ owing. inl (omega (arith, count, mid-long, few, at, due));
+          promise = λ made. absurd (promised-not made);
+        };
+        serves = λ tick low high. stays answerer answering there apart tick low (omega (arith, high, few));
+      }
+
+  answers : IsAnswering k answering (starts plan answering) loads outside (quiet_pairs n ++ mid.shown) c words
+  answers =
+      let rests = owing-rests n (omega arith) in
+      let so = still-so-far k answering (starts plan answering) loads outside mid.shown n rests in
+      let same = still-after k answering (starts plan answering) loads outside mid.shown n rests in
+      let stands = still-terminal k answering (starts plan answering) loads outside mid.shown n rests in
+      let later = ap (λ (b : StationSoFar). b.hearing) so.2 in
+      let count : length hearing.ticks ≡ length mid.shown = hearing-long k answering (starts plan answering) loads outside mid.shown in
+      let all : length (hearing_after k answering (starts plan answering) loads outside (quiet_pairs n ++ mid.shown)).ticks ≡ length (quiet_pairs n ++ mid.shown) =
+      hearing-long k answering (starts plan answering) loads outside (quiet_pairs n ++ mid.shown) in
+      let ticked : length (quiet_pairs n ++ mid.shown) ≡ n + length mid.shown = pairs-long n mid.shown in
+      let at : length (quiet_moments so.0 ++ hearing.ticks) ≡ due_after t e =
+      sym (ap (λ (h : Hearing). length h.ticks) later) ∙ all ∙ ticked ∙ omega (arith, mid-long, due) in
+      let begins = heard.due order last so.0 at (ap is_owed owed) in
+      record {
+        serves = record {
+          serves = ap (λ (d : Course). d.holds) same ∙ ap (λ (d : Course). d.holds) heard.course ∙ own.serves.serves;
+          idle = ap (λ (d : Course). d.runs) same ∙ ap (λ (d : Course). d.runs) heard.course ∙ own.serves.idle;
+        };
+        begins = subst (λ h. BeginsAnswer k t (standing_after k t loads h) c h.ticks) (sym later) begins.0;
+        duty = ap (λ (u : Standing). u.duty) stands ∙ mid-duty;
+        first = ap (λ (h : Hearing). (standing_after k t loads h).part) later ∙ begins.2;
+        rests = λ d. ap (λ (h : Hearing). runs k (heard_on d h.ticks)) later
+            ∙ ap (runs k) (heard-quiet d so.0 hearing.ticks) ∙ rests-quiet k (length so.0) (heard_on d hearing.ticks) (mid-rests d);
+        heeds = ap (λ (u : Standing). ignored_from k (heard_on (other_of c)
+            (hearing_after k answering (starts plan answering) loads outside (quiet_pairs n ++ mid.shown)).ticks) (mark_on u.sent (other_of c))) stands
+            ∙ ap (λ (h : Hearing). ignored_from k (heard_on (other_of c) h.ticks) (mark_on s.sent (other_of c))) later
+            ∙ ap (λ xs. ignored_from k xs (mark_on s.sent (other_of c))) (heard-quiet (other_of c) so.0 hearing.ticks)
+            ∙ heeded-later k (quiet_ticks (length so.0)) (heard_on (other_of c) hearing.ticks) (mark_on s.sent (other_of c)) mid-heeds;
+      }
+
+  -- ---- the others, and the world
+
+  mid-spent : (d : Channel) (station : ℕ) → IsSpent plan.faults d mid.driven station
+  mid-spent d station = left-spent plan.faults d (sent ++ before.driven) silent (over.ends.left d) station
+
+  mid-serving : (other : ℕ) (station : StationData) → slice_get plan.stations other ≡ Some station → other ≢ place → other ≢ answerer →
+      is_present absent station ≡ true → IsServing k station (starts plan station) loads outside mid.shown
+  mid-serving other station here away aside is =
+      serving-again k loads outside before.shown ticks c burst rests-over station (starts plan station) (settled.others other station here away is)
+      (over.others other station here away is) (nothing other station here away aside is)
+
+  all-silent : (m : ℕ) → m < n → (station : ℕ) → station_drive station (drives_after k plan loads outside absent (quiet_pairs m ++ mid.shown)) ≡ Silent
+  all-silent m few station = elim (cases_eq station place) [
+    | inl same ↦ ap (λ i. station_drive i (drives_after k plan loads outside absent (quiet_pairs m ++ mid.shown))) same
+        ∙ ap drive_or (place-drives k plan loads outside absent (quiet_pairs m ++ mid.shown) place holder Silent settled.there settled.present
+        (holder-silent k holder (starts plan holder) loads outside mid.shown mid-holds mid-before m (waits-on (suc m) few)))
+    | inr away ↦ elim (cases_eq station answerer) [
+      | inl same ↦ ap (λ i. station_drive i (drives_after k plan loads outside absent (quiet_pairs m ++ mid.shown))) same
+          ∙ ap drive_or (place-drives k plan loads outside absent (quiet_pairs m ++ mid.shown) answerer answering Silent there present
+          (still-quiet k answering (starts plan answering) loads outside mid.shown m (owing-rests (suc m) few)))
+      | inr aside ↦ place-silent k plan loads outside absent (quiet_pairs m ++ mid.shown) station (λ other here is.
+          serving-quiet k other (starts plan other) loads outside mid.shown (mid-serving station other here away aside is) m
+          (λ tick low high. stays station other here away tick low (omega (arith, high, few))))
+    ]
+  ]
+
+  pub comes-due : (pause : List (List Drive)) → ((d : Channel) → LeftAlone plan.faults d mid.driven pause) →
+      AnswerDue k plan loads outside absent record { shown = quiet_pairs n ++ mid.shown; driven = pause ++ mid.driven } place holder begun e answerer
+      answering words
+  comes-due pause left = record {
+    rests = λ d. ap (runs k) (on-quiet d n mid.shown)
+        ∙ rests-quiet k n (on_channel d mid.shown) (ap (runs k) (on-append d ticks before.shown) ∙ rests-over d (on_channel d before.shown) (settled.rests d));
+    undriven = undriven-still k plan loads outside absent mid n mid-spent all-silent pause left
+        (first-silent plan.faults (sent ++ before.driven) silent over.ends.left (omega (arith, over.ends.after)));
+    spent = λ d station. left-spent plan.faults d mid.driven pause (left d) station;
+    there = settled.there;
+    present = settled.present;
+    waits = waiting;
+    apart = apart;
+    there_too = there;
+    present_too = present;
+    answers = answers;
+    others = λ other station here away aside is.
+        serving-still k station (starts plan station) loads outside mid.shown (mid-serving other station here away aside is) n (stays other station here away);
+  }
+
+  pub pauses-then : (pause : List (List Drive))
+      × ((ticks_on k plan loads outside absent mid n ≡ record { shown = quiet_pairs n ++ mid.shown; driven = pause ++ mid.driven })
+      × ((d : Channel) → LeftAlone plan.faults d mid.driven pause))
+  pauses-then = paused k plan loads outside absent mid n mid-spent all-silent n (omega arith)
+
+-- from the settled moment in which the message starts to the one in which its answer is due
+pub due-at : (k : ℕ) (plan : PlanData) (loads : List TimedLoad) (outside : List OutsideTake) (absent : List ℕ) (t place : ℕ) (holder : StationData)
+    (entry : Entry) (hits : List Hit) (shape : Shape) (answerer : ℕ) (answering : StationData) (words : List Word) (order : Order) (n : ℕ) → k < 24 →
+    let before : Trace = trace k plan loads outside absent t in
+    let c : Course = course_after k holder (starts plan holder) loads outside before.shown in
+    let begun : Begun = message_begun c entry t in
+    let burst : Burst = burst_sent t hits (command_words entry.item.kind) in
+    let over : ℕ = 40 * length (command_words entry.item.kind) + suc k in
+    let after : Trace = trace k plan loads outside absent (t + over + n) in
+    let serving : Course = course_after k answering (starts plan answering) loads outside before.shown in
+    let s : Standing = standing_after k answering.terminal loads (hearing_after k answering (starts plan answering) loads outside before.shown) in
+    Settled k plan loads outside absent before place holder → BeginsMessage c before.shown entry →
+    (answers_of entry.item.kind).first ≡ Some shape → entry.item.abandon ≡ None → NoneTakes k plan loads outside place t (t + over + n) →
+    LeavesWhole plan.faults Command before.driven hits (command_words entry.item.kind) → added_by hits ≡ 0 →
+    answerer ≢ place → slice_get plan.stations answerer ≡ Some answering → is_present absent answering ≡ true →
+    last_order answering.terminal.address burst.slots ≡ Some order →
+    (obeyed_in answering.terminal loads (end_of burst + k) s begun.state.channel order (rest_of burst) (has_items serving.left)).duty ≡ owes words false →
+    LeavesNothing k plan loads outside absent before.shown place answerer begun.state.channel burst →
+    end_of burst + suc k + n ≡ due_after answering.terminal (end_of burst) → suc k + n ≤ no_response →
+    (ticks : List Pair) × (sent : List (List Drive)) × (silent : List (List Drive))
+    × CommandOver k plan loads outside absent before place holder begun hits ticks sent silent
+    × (after.shown ≡ quiet_pairs n ++ (ticks ++ before.shown))
+    × AnswerDue k plan loads outside absent after place holder begun (end_of burst) answerer answering words
+due-at k plan loads outside absent t place holder entry hits shape answerer answering words order n small settled begins expects kept stays whole added apart
+    there present last owed nothing due prompt =
+    let before : Trace = trace k plan loads outside absent t in
+    let begun : Begun = message_begun (course_after k holder (starts plan holder) loads outside before.shown) entry t in
+    let long : length before.shown ≡ t = shown-long k plan loads outside absent t in
+    let over : ℕ = 40 * length (command_words entry.item.kind) + suc k in
+    let first : NoneTakes k plan loads outside place t (t + (40 * length (command_words entry.item.kind) + suc k)) =
+    λ other station here away tick low high. stays other station here away tick low (omega (arith, high)) in
+    let so = over-at k plan loads outside absent t place holder entry hits small settled begins first whole added in
+    let count : length (so.0 ++ before.shown) ≡ length so.0 + length before.shown = length-append so.0 before.shown in
+    let then_stays : NoneTakes k plan loads outside place (length (so.0 ++ before.shown)) (length (so.0 ++ before.shown) + n) =
+    λ other station here away tick low high. stays other station here away tick (omega (arith, low, count, long))
+    (omega (arith, high, count, long, so.3.ends.many)) in
+    let p = pauses-then k plan loads outside absent before place holder begun hits so.0 so.1 so.2 long settled so.3 shape expects kept answerer answering words
+    apart there present order last owed nothing n due prompt then_stays in
+    let is = comes-due k plan loads outside absent before place holder begun hits so.0 so.1 so.2 long settled so.3 shape expects kept answerer answering words
+    apart there present order last owed nothing n due prompt then_stays p.0 p.1.1 in
+    let later = sym (trace-later k plan loads outside absent (t + over) n)
+    ∙ ap (λ tr. ticks_on k plan loads outside absent tr n) (sym (trace-later k plan loads outside absent t over) ∙ so.3.ends.world)
+    ∙ p.1.0 in (
+      so.0,
+      so.1,
+      so.2,
+      so.3,
+      ap (λ (tr : Trace). tr.shown) later,
+      subst (λ tr. AnswerDue k plan loads outside absent tr place holder begun (end_of (burst_sent t hits (command_words entry.item.kind))) answerer answering words)
+          (sym later) is,
+    )
