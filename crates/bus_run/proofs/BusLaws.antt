@@ -84,3 +84,32 @@ goes-on plan t on =
       words_left = rw (length-map (valid LAG past) heard_word) (grind (arith, nat_tests, by-words));
       bursts_left = rw (length-map (bursts LAG past) heard_burst) (grind (arith, nat_tests, by-bursts));
     }
+
+or-true : (a b : Bool) → b ≡ true → (a || b) ≡ true
+or-true false b is = is
+or-true true b is = refl
+
+or-false : (a b : Bool) → a ≡ false → (a || b) ≡ b
+or-false a b is = ap (λ x. x || b) is
+
+pub ends-at-bound : (plan : PlanData) (t : ℕ) → most_ticks plan ≤ t → has_ended plan t ≡ true
+unfolding has_ended
+ends-at-bound plan t past = let test : nat_le (most_ticks plan) t ≡ true = grind (arith, nat_tests, past) in rw test refl
+
+pub ends-outgrown : (plan : PlanData) (t : ℕ) → is_outgrown plan (world LAG plan [] [] [] t) ≡ true → has_ended plan t ≡ true
+unfolding has_ended
+ends-outgrown plan t grown =
+    or-true (nat_le (most_ticks plan) t) (is_outgrown plan (world LAG plan [] [] [] t) || run_is_over LAG plan [] [] [] t)
+    (ap (λ b. b || run_is_over LAG plan [] [] [] t) grown)
+
+pub ends-over : (plan : PlanData) (t : ℕ) → t < most_ticks plan → is_outgrown plan (world LAG plan [] [] [] t) ≡ false →
+    has_ended plan t ≡ run_is_over LAG plan [] [] [] t
+unfolding has_ended
+ends-over plan t within small =
+    let test : nat_le (most_ticks plan) t ≡ false = grind (arith, nat_tests, within) in
+    or-false (nat_le (most_ticks plan) t) (is_outgrown plan (world LAG plan [] [] [] t) || run_is_over LAG plan [] [] [] t) test
+    ∙ or-false (is_outgrown plan (world LAG plan [] [] [] t)) (run_is_over LAG plan [] [] [] t) small
+
+pub same-past : (m a w b m' a' w' b' : ℕ) → m ≡ m' → a ≡ a' → w ≡ w' → b ≡ b' →
+    (nat_lt m a || (nat_lt (120 * m) w || nat_lt (3 * m) b)) ≡ (nat_lt m' a' || (nat_lt (120 * m') w' || nat_lt (3 * m') b'))
+same-past m a w b m' a' w' b' em ea ew eb = rw (em, ea, ew, eb) refl

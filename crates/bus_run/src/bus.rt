@@ -10,13 +10,15 @@ ghost use Rattle.bus_model.specs.WorldLog as logs;
 ghost use Rattle.bus_run.specs.Parts.{StationsStand};
 ghost use Rattle.bus_run.specs.Ends.{has_ended};
 ghost use Rattle.bus_run.specs.Ends as ends;
-ghost use Rattle.bus_run.specs.Stands.{BusStands, Stands, shown_in};
+ghost use Rattle.bus_run.specs.Stands.{BusStands, Stands, EndsAfter, FinishedStands, shown_in};
 
 use crate::cable::Cable;
 use crate::crew::Crew;
+use crate::ends::Ends;
+use crate::finished::FinishedBus;
 use crate::monitor::Monitor;
 use bus_base::{Pair, Tick};
-use bus_formats::{Attempt, Heard, HeardBurst};
+use bus_formats::{Attempt, Heard, HeardBurst, RunLog};
 use bus_station::Station;
 
 /// A run ends when both channels were quiet for so many ticks and nothing is left to do.
@@ -30,6 +32,7 @@ pub struct Bus {
     crew: Crew,
     cable: Cable,
     monitor: Monitor,
+    ends: Ends,
     ticks: u64,
     // the bounds of the run
     most_ticks: u64,
@@ -58,7 +61,13 @@ impl Bus {
         ensures ended { (plan : PlanData) (t : ℕ) → BusStands plan t self.now → result ≡ has_ended plan t }
         ensures within { result ≡ false → self.now.ticks < self.now.most_ticks }
     {
-        self.ticks >= self.most_ticks || self.is_outgrown() || self.is_over()
+        if self.ticks >= self.most_ticks {
+            return true;
+        }
+        if self.is_outgrown() {
+            return true;
+        }
+        self.is_over()
     }
 
     // Whether there is room no more for what a tick may bring.
@@ -95,6 +104,37 @@ impl Bus {
         self.monitor.hear(self.ticks, shown);
         self.ticks += 1;
         shown
+    }
+
+    /// Runs to the end, and answers what the run leaves. It takes no memory.
+    pub fn finish(mut self) -> FinishedBus
+        requires { (plan : PlanData) × (t : ℕ) × BusStands plan t self }
+        ensures { (plan : PlanData) (t : ℕ) → BusStands plan t self → (u : ℕ) × EndsAfter plan t u × FinishedStands plan u result }
+    {
+        'ticks: while self.tick().is_some() {}
+        self.close()
+    }
+
+    // What a run leaves that ends here.
+    fn close(self) -> FinishedBus
+        requires { (plan : PlanData) × (t : ℕ) × BusStands plan t self }
+        ensures { (plan : PlanData) (t : ℕ) → BusStands plan t self → FinishedStands plan t result }
+    {
+        let clashes = self.cable.clashes();
+        let end = Tick(self.ticks);
+        let (stations, attempts) = self.crew.into_parts();
+        let (words, bursts) = self.monitor.into_lists();
+        let (terminals, blocks) = self.ends.gather(&stations);
+        let log = RunLog {
+            attempts,
+            words,
+            bursts,
+            terminals,
+            blocks,
+            end,
+            clashes,
+        };
+        FinishedBus { stations, log }
     }
 
     /// The stations in the order of the plan, as they stand after the ticks so far.

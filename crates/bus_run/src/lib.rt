@@ -7,10 +7,13 @@ pub mod burst_lister;
 pub mod bus;
 pub mod cable;
 pub mod crew;
+pub mod ends;
+pub mod finished;
 pub mod monitor;
 pub mod room;
 
 pub use bus::Bus;
 pub use cable::Cable;
 pub use crew::Crew;
+pub use finished::FinishedBus;
 pub use monitor::Monitor;
