@@ -6,3 +6,4 @@ pub mod MonitorLaws
 pub mod CrewLaws
 pub mod DoneLaws
 pub mod BusLaws
+pub mod TerminalLaws

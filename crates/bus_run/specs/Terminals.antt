@@ -16,8 +16,9 @@ pub record EndsStand (plan : PlanData) (ends : Ends) : Type 0 where
   pub addresses_are : ends.addresses.items ≡ map (λ s. s.terminal.address) plan.stations
   pub no_terminal : ends.terminals.items ≡ []
   pub no_block : ends.blocks.items ≡ []
-  pub terminal_room : 31 * length plan.stations ≤ vec_capacity ends.terminals
-  pub block_room : 930 * length plan.stations ≤ vec_capacity ends.blocks
+  pub few : length plan.stations ≤ 32
+  pub terminal_room : 992 ≤ vec_capacity ends.terminals
+  pub block_room : 29760 ≤ vec_capacity ends.blocks
 
 -- the terminals with addresses below this one were put, in order of address, and of this address those before the place
 abbrev pub so_far : PlanData → List Pair → ℕ → ℕ → List Present
@@ -38,6 +39,6 @@ block_of address sub [] = None
 block_of address sub (word ∷ words) = Some record { address = address; sub = sub; words = word ∷ words }
 
 -- those of the first so many subaddresses
-abbrev pub blocks_below : ℕ → Blocks → ℕ → List BlockEnd
+unfoldable pub blocks_below : ℕ → Blocks → ℕ → List BlockEnd
 blocks_below address buffers zero = []
 blocks_below address buffers (suc n) = blocks_below address buffers n ++ option_to_list (block_of address (suc n) (received_in buffers (suc n)))

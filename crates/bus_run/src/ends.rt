@@ -1,13 +1,15 @@
 //! The terminals at the end of a run, and their blocks.
-ghost use Rattle.std.specs.Prelude.{◌≡◌, ◌≤◌, ◌<◌, ◌+◌, ◌*◌, ◌++◌, ℕ, List, [], ◌∷◌, length, map, flat_map, option_to_list, vec_len, vec_capacity};
+ghost use Rattle.std.specs.Prelude.{◌≡◌, ◌≤◌, ◌<◌, ◌+◌, ◌*◌, ◌++◌, ℕ, List, [], ◌∷◌, length, map, flat_map, slice_get, Some, option_to_list, vec_len, vec_capacity};
 ghost use Rattle.bus_base.specs.declared.samples.Pair.{Pair};
 ghost use Rattle.bus_line.specs.declared.cutter.TheConstants.{LAG};
-ghost use Rattle.bus_formats.specs.Plans.{TerminalData, PlanData};
+ghost use Rattle.bus_formats.specs.Plans.{TerminalData, StationData, PlanData};
 ghost use Rattle.bus_model.specs.Hearing.{Hearing};
 ghost use Rattle.bus_model.specs.Terminal.{memory_after};
 ghost use Rattle.bus_model.specs.Message.{Present};
-ghost use Rattle.bus_model.specs.Log.{terminals, terminal_end, blocks_of};
-ghost use Rattle.bus_model.specs.WorldLog.{presents};
+ghost use Rattle.bus_model.specs.Log.{terminals, terminals_at, terminal_end, blocks_of};
+ghost use Rattle.bus_model.specs.Starts.{starts};
+ghost use Rattle.bus_station.specs.StationStands.{StationStands};
+ghost use Rattle.bus_model.specs.WorldLog.{presents, present_after};
 ghost use Rattle.bus_terminal.specs.TerminalStands.{TerminalStands};
 ghost use Rattle.bus_run.specs.Parts.{StationsStand};
 ghost use Rattle.bus_run.specs.Terminals.{EndsStand, ArePut, so_far, blocks_below, block_of};
@@ -30,8 +32,8 @@ impl Ends {
     pub fn new(addresses: Vec<u8>, terminals: Vec<TerminalEnd>, blocks: Vec<BlockEnd>) -> Ends
         requires terminals { terminals.items ≡ [] }
         requires blocks { blocks.items ≡ [] }
-        ensures { (plan : PlanData) → addresses.items ≡ map (λ s. s.terminal.address) plan.stations → 31 * length plan.stations ≤ vec_capacity terminals →
-            930 * length plan.stations ≤ vec_capacity blocks → EndsStand plan result }
+        ensures { (plan : PlanData) → addresses.items ≡ map (λ s. s.terminal.address) plan.stations → length plan.stations ≤ 32 →
+            992 ≤ vec_capacity terminals → 29760 ≤ vec_capacity blocks → EndsStand plan result }
     {
         Ends {
             addresses,
@@ -57,24 +59,42 @@ impl Ends {
 
     // Puts the terminals with this address.
     fn put_address(&mut self, address: u8, stations: &[Station])
-        requires low { address < 31 }
-        requires all { length self.old.addresses.items ≡ length stations.now }
-        requires stand { (plan : PlanData) × (past : List Pair) × StationsStand plan stations.now past }
-        requires terminal_room { vec_len self.old.terminals + length stations.now ≤ vec_capacity self.old.terminals }
-        requires block_room { vec_len self.old.blocks + 30 * length stations.now ≤ vec_capacity self.old.blocks }
+        requires few { length stations.now ≤ 32 }
+        requires stand { (plan : PlanData) × (past : List Pair) × StationsStand plan stations.now past × (self.old.addresses.items ≡ map (λ s. s.terminal.address) plan.stations) }
+        requires terminal_room { vec_len self.old.terminals + 32 ≤ vec_capacity self.old.terminals }
+        requires block_room { vec_len self.old.blocks + 960 ≤ vec_capacity self.old.blocks }
         ensures put { (plan : PlanData) (past : List Pair) → self.old.addresses.items ≡ map (λ s. s.terminal.address) plan.stations →
             StationsStand plan stations.now past → ArePut (so_far plan past address 0) self.old → ArePut (so_far plan past (address + 1) 0) self.new }
         ensures addresses { self.new.addresses ≡ self.old.addresses }
-        ensures terminals { vec_len self.new.terminals ≤ vec_len self.old.terminals + length stations.now }
-        ensures blocks { vec_len self.new.blocks ≤ vec_len self.old.blocks + 30 * length stations.now }
+        ensures terminals { vec_len self.new.terminals ≤ vec_len self.old.terminals + 32 }
+        ensures blocks { vec_len self.new.blocks ≤ vec_len self.old.blocks + 960 }
         ensures terminal_room { vec_capacity self.new.terminals ≡ vec_capacity self.old.terminals }
         ensures block_room { vec_capacity self.new.blocks ≡ vec_capacity self.old.blocks }
     {
         for (place, station) in stations.iter().enumerate() {
-            if self.addresses[place] == address {
-                self.put(address, station.terminal());
-            }
+            self.put_at(address, place, station);
         }
+    }
+
+    // Puts the terminal of the station at a place, if it has this address.
+    fn put_at(&mut self, address: u8, place: usize, station: &Station)
+        requires place { place < length self.old.addresses.items }
+        requires stands { (plan : PlanData) × (s : StationData) × (past : List Pair) × StationStands LAG s (starts plan s) [] [] station.now past }
+        requires terminal_room { vec_len self.old.terminals < vec_capacity self.old.terminals }
+        requires block_room { vec_len self.old.blocks + 30 ≤ vec_capacity self.old.blocks }
+        ensures put { (plan : PlanData) (s : StationData) (past : List Pair) (found : List Present) → self.old.addresses.items ≡ map (λ s. s.terminal.address) plan.stations →
+            slice_get plan.stations place ≡ Some s → StationStands LAG s (starts plan s) [] [] station.now past → ArePut found self.old →
+            ArePut (found ++ terminals_at (present_after LAG plan [] [] [] past s ∷ []) address) self.new }
+        ensures addresses { self.new.addresses ≡ self.old.addresses }
+        ensures terminals { vec_len self.new.terminals ≤ vec_len self.old.terminals + 1 }
+        ensures blocks { vec_len self.new.blocks ≤ vec_len self.old.blocks + 30 }
+        ensures terminal_room { vec_capacity self.new.terminals ≡ vec_capacity self.old.terminals }
+        ensures block_room { vec_capacity self.new.blocks ≡ vec_capacity self.old.blocks }
+    {
+        if self.addresses[place] != address {
+            return;
+        }
+        self.put(address, station.terminal());
     }
 
     // Puts a terminal and its blocks.

@@ -77,6 +77,7 @@ returns-clause-stands c plan t st on =
           (c.show-shown.ensures.stands plan past (trace LAG plan [] [] [] t).driven stations st.cable);
       monitor = subst (λ p. MonitorStands (most_words plan) (most_bursts plan) c.hear-2.new.self p) next
           (c.hear-2.ensures (most_words plan) (most_bursts plan) past st.monitor here);
+      ends = st.ends;
       ticks_are = add-one c.args.self.now.ticks ∙ ap suc st.ticks_are;
       most_ticks_are = st.most_ticks_are;
       most_attempts_are = st.most_attempts_are;
