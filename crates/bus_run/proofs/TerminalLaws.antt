@@ -3,6 +3,7 @@ use Rattle.std.proofs.Common.{◌≡◌, ◌≢◌, ℕ, zero, suc, ◌+◌, ◌
 use Rattle.std.specs.Prelude.{flat_map, filter_map, option_to_list, slice_get, get_or}
 use Rattle.std.specs.List.{range_with_len}
 use Rattle.std.proofs.lemmas.Bool.Decides.{nat_tests}
+use Rattle.std.proofs.lemmas.Option.{same_Some, slice_get_read}
 use Rattle.std.proofs.lemmas.List.{map-append, take-map}
 use Rattle.std.proofs.lemmas.List.Elements.{filter_map-append}
 use Rattle.std.proofs.lemmas.Grind.{flat_map-append}
@@ -11,6 +12,7 @@ use Rattle.bus_buffers.specs.Blocks.{Blocks, received_in}
 use Rattle.bus_line.specs.declared.cutter.TheConstants.{LAG}
 use Rattle.bus_formats.specs.Plans.{StationData, PlanData}
 use Rattle.bus_formats.specs.declared.log.BlockEnd.{BlockEnd}
+use Rattle.bus_formats.specs.declared.log.Registers.{Registers}
 use Rattle.bus_formats.specs.declared.log.TerminalEnd.{TerminalEnd}
 use Rattle.bus_model.specs.Memory.{Memory, received_on, status_of}
 use Rattle.bus_model.specs.Message.{Present}
@@ -26,8 +28,8 @@ use Rattle.bus_run.proofs.CrewLaws.{all-present, take-next, take-all, flat_map-o
 range-more : (a n : ℕ) → range_with_len a (suc n) ≡ range_with_len a n ++ (a + n) ∷ []
 range-more a zero = let same : a + 0 ≡ a = omega arith in ap (λ x. x ∷ []) (sym same)
 range-more a (suc n) =
-    let same : suc a + n ≡ a + suc n = omega arith in
-    ap (λ xs. a ∷ xs) (range-more (suc a) n ∙ ap (λ x. range_with_len (suc a) n ++ x ∷ []) same)
+    let same : a + 1 + n ≡ a + suc n = omega arith in
+    ap (λ xs. a ∷ xs) (range-more (a + 1) n ∙ ap (λ x. range_with_len (a + 1) n ++ x ∷ []) same)
 
 found-one : {A B : Type 0} (f : A → Option B) (x : A) (o : Option B) → f x ≡ o → filter_map f (x ∷ []) ≡ option_to_list o
 found-one f x None is = rw is refl
@@ -84,9 +86,14 @@ put-one found p old new end address buffers put at same is terminals-are blocks-
       ∙ sym (flat_map-append blocks_of found (p ∷ []));
 }
 
-pub end-same : (p : Present) (address status : ℕ) (end : TerminalEnd) → p.plan.terminal.address ≡ address → end.address ≡ address →
+end-of : (end : TerminalEnd) (address : ℕ) (registers : Registers) (status : ℕ) → end.address ≡ address → end.registers ≡ registers → end.status ≡ status →
+    end ≡ record { address = address; registers = registers; status = status }
+end-of end address registers status a r s = rw (← a, ← r, ← s) refl
+
+pub end-same : (p : Present) (address : ℕ) (end : TerminalEnd) → p.plan.terminal.address ≡ address → end.address ≡ address →
     end.registers ≡ p.memory.registers → end.status ≡ status_of p.plan.terminal p.memory.registers false → end ≡ terminal_end p
-end-same p address status end at a r s = let e : end.address ≡ p.plan.terminal.address = a ∙ sym at in cc
+end-same p address end at a r s =
+    end-of end p.plan.terminal.address p.memory.registers (status_of p.plan.terminal p.memory.registers false) (a ∙ sym at) r s
 
 -- ---- those of an address
 
@@ -141,3 +148,16 @@ pub so-far-all : (plan : PlanData) (past : List Pair) (address : ℕ) → addres
 so-far-all plan past address is =
     append-nil (flat_map (terminals_at (presents LAG plan [] [] [] past)) (range_with_len 0 address))
     ∙ ap (λ n. flat_map (terminals_at (presents LAG plan [] [] [] past)) (range_with_len 0 n)) is
+
+-- ---- the address of a station
+
+get-map : {A B : Type 0} (f : A → B) (xs : List A) (i : ℕ) (x : A) → slice_get xs i ≡ Some x → slice_get (map f xs) i ≡ Some (f x)
+get-map f [] i x here = (let no : None ≡ Some x = here in cc)
+get-map f (y ∷ xs) zero x here = ap (λ z. Some (f z)) (same_Some y x here)
+get-map f (y ∷ xs) (suc i) x here = get-map f xs i x here
+
+pub address-at : (plan : PlanData) (addresses : List ℕ) (place : ℕ) (s : StationData) (x : ℕ) → addresses ≡ map (λ s. s.terminal.address) plan.stations →
+    slice_get plan.stations place ≡ Some s → place < length addresses → x ≡ get_or addresses place x → x ≡ s.terminal.address
+address-at plan addresses place s x are here within is =
+    same_Some x s.terminal.address (sym (slice_get_read addresses (length addresses) place x refl within is)
+    ∙ ap (λ xs. slice_get xs place) are ∙ get-map (λ (d : StationData). d.terminal.address) plan.stations place s here)
