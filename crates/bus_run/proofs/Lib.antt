@@ -7,3 +7,5 @@ pub mod CrewLaws
 pub mod DoneLaws
 pub mod BusLaws
 pub mod TerminalLaws
+pub mod FinishLaws
+pub mod PrepareLaws

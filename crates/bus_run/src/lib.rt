@@ -6,10 +6,12 @@ pub mod amounts;
 pub mod burst_lister;
 pub mod bus;
 pub mod cable;
+pub mod copies;
 pub mod crew;
 pub mod ends;
 pub mod finished;
 pub mod monitor;
+pub mod prepare;
 pub mod room;
 
 pub use bus::Bus;
