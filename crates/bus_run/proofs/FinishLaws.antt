@@ -1,6 +1,6 @@
 -- A run goes on while a tick answers, and has ended where one answers nothing.
 use Rattle.std.proofs.Common.{◌≡◌, ℕ, suc, ◌<◌, ◌≤◌, Bool, true, false, arith, subst, sym, inl, inr, ◌⊎◌, Option, Some, None}
-use Rattle.std.specs.Prelude.{is_some, IsSome}
+use Rattle.std.specs.Prelude.{is_some}
 use Rattle.std.proofs.lemmas.Bool.{cases_Bool, cases_lt}
 use Rattle.bus_base.specs.declared.samples.Pair.{Pair}
 use Rattle.bus_formats.specs.Plans.{PlanData}
@@ -13,10 +13,6 @@ no-answer (Some shown) is some = (let no : Some shown ≡ None = is in cc)
 an-answer : (o : Option Pair) (shown : Pair) → o ≡ Some shown → is_some o ≡ false → ⊥
 an-answer None shown is none = (let no : None ≡ Some shown = is in cc)
 an-answer (Some x) shown is none = (let no : true ≡ false = none in cc)
-
-pub some-is : (o : Option Pair) → is_some o ≡ true → IsSome o
-some-is None is = (let no : false ≡ true = is in cc)
-some-is (Some shown) is = tt
 
 on-by : (plan : PlanData) (u : ℕ) (o : Option Pair) → (has_ended plan u ≡ true → o ≡ None) → is_some o ≡ true →
     (has_ended plan u ≡ true) ⊎ (has_ended plan u ≡ false) → has_ended plan u ≡ false

@@ -1,7 +1,8 @@
 //! The bus of a plan, tick by tick.
-ghost use Rattle.std.specs.Prelude.{◌≡◌, ◌≤◌, ◌<◌, ◌+◌, ◌*◌, ◌||◌, nat_lt, ℕ, suc, List, [], map, true, false, None, Some, IsSome};
+ghost use Rattle.std.specs.Prelude.{◌≡◌, ◌≤◌, ◌<◌, ◌+◌, ◌*◌, ◌||◌, nat_lt, ℕ, suc, List, [], map, true, false, None, Some, IsSome, IfOk};
 ghost use Rattle.bus_line.specs.Channels.{valid, bursts};
 ghost use Rattle.bus_line.specs.declared.cutter.TheConstants.{LAG};
+ghost use Rattle.bus_formats.specs.Accepted.{IsAccepted};
 ghost use Rattle.bus_formats.specs.Plans.{PlanData};
 ghost use Rattle.bus_model.specs.World.{world, trace};
 ghost use Rattle.bus_model.specs.World as worlds;
@@ -12,14 +13,17 @@ ghost use Rattle.bus_run.specs.Ends.{has_ended};
 ghost use Rattle.bus_run.specs.Ends as ends;
 ghost use Rattle.bus_run.specs.Stands.{BusStands, Stands, EndsAfter, FinishedStands, shown_in};
 
+use crate::amounts::{most_attempts, most_ticks};
 use crate::cable::Cable;
 use crate::crew::Crew;
 use crate::ends::Ends;
 use crate::finished::FinishedBus;
 use crate::monitor::Monitor;
+use crate::prepare::{cable_of, crew_of, ends_of, monitor_of};
 use bus_base::{Pair, Tick};
-use bus_formats::{Attempt, Heard, HeardBurst, RunLog};
-use bus_station::Station;
+use bus_formats::{Attempt, Heard, HeardBurst, Plan, RunLog};
+use bus_station::{Station, the_stations_of_an_accepted_plan_fit};
+use std::alloc::{AllocError, Global};
 
 /// A run ends when both channels were quiet for so many ticks and nothing is left to do.
 const ENDING_QUIET: u64 = 80;
@@ -40,6 +44,32 @@ pub struct Bus {
 }
 
 impl Bus {
+    /// The bus of an accepted plan before the first tick. It takes all memory that the run needs.
+    ///
+    /// # Errors
+    ///
+    /// `AllocError` where there is no memory for it.
+    pub fn prepare(alloc: Global, plan: &Plan) -> Result<Bus, AllocError>
+        requires { IsAccepted plan.now }
+        ensures { IfOk result (λ bus. BusStands plan.now 0 bus) }
+    {
+        the_stations_of_an_accepted_plan_fit();
+        let most_attempts = most_attempts(plan);
+        let crew = crew_of(alloc, plan, most_attempts)?;
+        let cable = cable_of(alloc, plan)?;
+        let monitor = monitor_of(alloc, most_attempts)?;
+        let ends = ends_of(alloc, plan)?;
+        Ok(Bus {
+            crew,
+            cable,
+            monitor,
+            ends,
+            ticks: 0,
+            most_ticks: most_ticks(plan),
+            most_attempts,
+        })
+    }
+
     /// Runs the next tick, and answers what both channels showed in it. None exactly where the run has ended; then nothing changes. It takes
     /// no memory.
     pub fn tick(&mut self) -> Option<Pair>

@@ -48,7 +48,7 @@ impl Ends {
         requires { (plan : PlanData) × (past : List Pair) × EndsStand plan self × StationsStand plan stations.now past }
         ensures terminals { (plan : PlanData) (past : List Pair) → EndsStand plan self → StationsStand plan stations.now past →
             result.0.items ≡ map terminal_end (terminals (presents LAG plan [] [] [] past)) }
-        ensures blocks { (plan : PlanData) (past : List Pair) → EndsStand plan self → StationsStand plan stations.now past →
+        ensures block_ends { (plan : PlanData) (past : List Pair) → EndsStand plan self → StationsStand plan stations.now past →
             result.1.items ≡ flat_map blocks_of (terminals (presents LAG plan [] [] [] past)) }
     {
         for address in 0..31 {

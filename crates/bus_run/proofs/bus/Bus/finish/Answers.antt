@@ -2,7 +2,7 @@ use Rattle.std.proofs.Common.{◌≡◌, ◌≤◌, ◌<◌, suc, ℕ, true, fal
 use Rattle.std.specs.Prelude.{is_some}
 use Rattle.bus_run.specs.Ends.{has_ended}
 use Rattle.bus_run.specs.Stands.{BusStands, shown_in}
-use Rattle.bus_run.proofs.FinishLaws.{some-is, still-on, has-ended, before-more}
+use Rattle.bus_run.proofs.FinishLaws.{still-on, has-ended, before-more}
 use Rattle.bus_run.proofs.bus.Bus.finish.Goals as goal
 
 pub ticks-init : goal.ticks-init
@@ -23,7 +23,7 @@ ticks-preserved c plan t st =
 
 pub ticks-smaller : goal.ticks-smaller
 ticks-smaller c =
-    let (most, within, next) = c.tick.ensures.nearer (some-is c.tick.result (sym c.is_some.ensures ∙ c.ticks-test.true)) in
+    let (most, within, next) = c.tick.ensures.nearer (sym c.is_some.ensures ∙ c.ticks-test.true) in
     omega (arith, most, within, next)
 
 pub close-requires : goal.close-requires
@@ -38,6 +38,8 @@ pub returns : goal.returns
 returns c plan t st =
     let (u, later, before, stands) = c.ticks.invariant plan t st in
     let ended : has_ended plan u ≡ true =
-    has-ended plan u c.tick.result (shown_in plan u) (λ e. (c.tick.ensures.shown plan u stands e).0) (sym c.is_some.ensures ∙ c.ticks-test.false) in
-    (u, record { later = later; before = before; ended = ended },
-    c.close.ensures plan u (subst (λ b. BusStands plan u b) (sym (c.tick.ensures.ended plan u stands ended).1) stands))
+    has-ended plan u c.tick.result (shown_in plan u) (λ e. (c.tick.ensures.shown plan u stands e).0) (sym c.is_some.ensures ∙ c.ticks-test.false) in (
+      u,
+      record { later = later; before = before; ended = ended },
+      c.close.ensures plan u (subst (λ b. BusStands plan u b) (sym (c.tick.ensures.ended plan u stands ended).1) stands),
+    )

@@ -56,6 +56,6 @@ pub returns-clause-terminals : goal.returns-clause-terminals
 returns-clause-terminals c plan past ends st =
     (c.loop-address.invariant.put plan past ends st).terminals ∙ ap (map terminal_end) (so-far-all plan past c.loop-address.address (omega arith))
 
-pub returns-clause-blocks : goal.returns-clause-blocks
-returns-clause-blocks c plan past ends st =
+pub returns-clause-block_ends : goal.returns-clause-block_ends
+returns-clause-block_ends c plan past ends st =
     (c.loop-address.invariant.put plan past ends st).blocks ∙ ap (flat_map blocks_of) (so-far-all plan past c.loop-address.address (omega arith))

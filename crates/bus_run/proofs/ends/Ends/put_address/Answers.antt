@@ -20,9 +20,13 @@ put_at-requires-clause-stands c =
     let (plan, past, st, are) = c.requires.stand in
     let all = st.all in
     let within : c.loop-place.place < length plan.stations = omega (arith, all, c.loop-place-test.true) in
-    let (s, found) = found-at plan.stations c.loop-place.place within in
-    (plan, s, past, st.each c.loop-place.place s c.index-stations-place.result found
-    (slice_get_read c.args.stations.now (length c.args.stations.now) c.loop-place.place c.index-stations-place.result refl c.loop-place-test.true c.index-stations-place.is))
+    let (s, found) = found-at plan.stations c.loop-place.place within in (
+      plan,
+      s,
+      past,
+      st.each c.loop-place.place s c.index-stations-place.result found
+          (slice_get_read c.args.stations.now (length c.args.stations.now) c.loop-place.place c.index-stations-place.result refl c.loop-place-test.true c.index-stations-place.is),
+    )
 
 pub put_at-requires-clause-terminal_room : goal.put_at-requires-clause-terminal_room
 put_at-requires-clause-terminal_room c =
