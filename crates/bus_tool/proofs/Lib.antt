@@ -1,1 +1,3 @@
+pub mod Answering
 pub mod Ending
+pub mod Ranges

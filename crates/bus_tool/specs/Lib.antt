@@ -1,5 +1,6 @@
 pub mod Meaning
 pub mod Built
+pub mod Texts
 pub mod Due
 pub mod Ends
 pub mod Answers

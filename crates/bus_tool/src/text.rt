@@ -1,0 +1,8 @@
+//! What a command writes of a plan's run.
+
+/// The text that is asked for.
+#[derive(Clone, Copy, Debug, PartialEq, Eq)]
+pub enum Text {
+    /// The report of the run.
+    Report,
+}
