@@ -4,4 +4,5 @@ pub mod BurstListers
 pub mod Monitors
 pub mod Crews
 pub mod Ends
+pub mod Terminals
 pub mod Stands

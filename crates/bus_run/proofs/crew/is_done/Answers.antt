@@ -18,4 +18,4 @@ returns-then-is_idle c plan s past st =
 pub returns-else-is_idle : goal.returns-else-is_idle
 returns-else-is_idle c plan s past st =
     let idle : is_idle LAG s (starts plan s) [] [] past ≡ false = sym (c.is_idle.ensures s (starts plan s) [] [] past st) ∙ c.if-is_idle.false in
-    ap (λ b. b && is_none (takes_control LAG s (starts plan s) [] [] past)) (sym idle)
+    c.if-is_idle.false ∙ ap (λ b. b && is_none (takes_control LAG s (starts plan s) [] [] past)) (sym idle)

@@ -17,9 +17,14 @@ unfolding BusStands
 show-shown-requires c =
     let (plan, t, st, on) = c.requires in
     let small = (goes-on plan t on).small in
-    let ticks = driven-length plan t in
-    (plan, world LAG plan [] [] [] t, (trace LAG plan [] [] [] t).driven,
-    subst (λ ss. StationsStand plan ss (world LAG plan [] [] [] t)) (sym c.stations.ensures) st.crew.stations, st.cable, omega (arith, small, ticks))
+    let ticks = driven-length plan t in (
+      plan,
+      world LAG plan [] [] [] t,
+      (trace LAG plan [] [] [] t).driven,
+      subst (λ ss. StationsStand plan ss (world LAG plan [] [] [] t)) (sym c.stations.ensures) st.crew.stations,
+      st.cable,
+      omega (arith, small, ticks),
+    )
 
 pub hear-requires : goal.hear-requires
 unfolding BusStands
@@ -42,9 +47,16 @@ hear-requires-2 c =
     let words = going.words_left in
     let bursts = going.bursts_left in
     let words-are = ap length st.monitor.words_are in
-    let bursts-are = ap length st.monitor.bursts_are in
-    (most_words plan, most_bursts plan, world LAG plan [] [] [] t, st.monitor, world-length plan t ∙ sym st.ticks_are, omega (arith, small, ticks),
-    omega (arith, words, words-are), omega (arith, bursts, bursts-are))
+    let bursts-are = ap length st.monitor.bursts_are in (
+      most_words plan,
+      most_bursts plan,
+      world LAG plan [] [] [] t,
+      st.monitor,
+      world-length plan t ∙ sym st.ticks_are,
+      omega (arith, small, ticks),
+      omega (arith, words, words-are),
+      omega (arith, bursts, bursts-are),
+    )
 
 pub overflow_add-self : goal.overflow_add-self
 unfolding BusStands
@@ -77,6 +89,7 @@ returns-clause-stands c plan t st on =
           (c.show-shown.ensures.stands plan past (trace LAG plan [] [] [] t).driven stations st.cable);
       monitor = subst (λ p. MonitorStands (most_words plan) (most_bursts plan) c.hear-2.new.self p) next
           (c.hear-2.ensures (most_words plan) (most_bursts plan) past st.monitor here);
+      ends = st.ends;
       ticks_are = add-one c.args.self.now.ticks ∙ ap suc st.ticks_are;
       most_ticks_are = st.most_ticks_are;
       most_attempts_are = st.most_attempts_are;

@@ -10,10 +10,17 @@ pub hear-event-requires : goal.hear-event-requires
 hear-event-requires c =
     let (plan, past, hears, here, small) = c.requires.stands in
     let within : c.args.place < length plan.stations = (let all = hears.all in omega (arith, all, c.requires.place)) in
-    let (s, found) = found-at plan.stations c.args.place within in
-    (s, starts plan s, [], [], past, stands-before plan c.args.place c.args.shown past c.args.self.now s c.index_mut.result.now hears found
-    (slice_get_read c.args.self.now.stations.items (length c.args.self.now.stations.items) c.args.place c.index_mut.result.now refl c.requires.place c.index_mut.ensures.value),
-    here, omega (arith, small))
+    let (s, found) = found-at plan.stations c.args.place within in (
+      s,
+      starts plan s,
+      [],
+      [],
+      past,
+      stands-before plan c.args.place c.args.shown past c.args.self.now s c.index_mut.result.now hears found
+          (slice_get_read c.args.self.now.stations.items (length c.args.self.now.stations.items) c.args.place c.index_mut.result.now refl c.requires.place c.index_mut.ensures.value),
+      here,
+      omega (arith, small),
+    )
 
 pub returns-clause-stands : goal.returns-clause-stands
 returns-clause-stands c plan past hears here =
