@@ -142,12 +142,12 @@ module _ (left0 left1 held0 held1 : Option (List ℕ)) (source0 source1 sink0 si
             written = done.written;
           }
       | inr failed ↦ rw (failed.status_is, failed.no_bus) (stopped_ends failed.failed record {
-          input = input;
-          read = read;
-          bytes = text_of text (plan_run text ran.plan) ran.ticks;
-          due = inr (ran.accepted, record { plan = ran.plan; read = ran.read; ticks = ran.ticks; ends = ran.ends; bytes_are = refl });
-          front = failed.front;
-        })
+        input = input;
+        read = read;
+        bytes = text_of text (plan_run text ran.plan) ran.ticks;
+        due = inr (ran.accepted, record { plan = ran.plan; read = ran.read; ticks = ran.ticks; ends = ran.ends; bytes_are = refl });
+        front = failed.front;
+      })
     ]
     | inr other ↦ elim other [
       | inl refused ↦ elim refused.2.wrote [

@@ -22,7 +22,7 @@ use Rattle.bus_tool.specs.Texts.{plan_run, text_of, status_of}
 use Rattle.bus_tool.specs.declared.words.Command.{Command}
 use Rattle.bus_tool.specs.declared.words.Command.TheVariants as commands
 use Rattle.bus_tool.specs.declared.text.Text.{Text}
-use Rattle.bus_tool.specs.declared.text.Text.TheVariants.{Report}
+use Rattle.bus_tool.specs.declared.text.Text.TheVariants.{Report, Capture}
 
 -- the source gave this input: all that was left, or one byte past the limit
 pub record ReadsInput (old now : Option (List ℕ)) (input : List ℕ) : Type 0 where
@@ -129,5 +129,6 @@ module _ (left0 left1 held0 held1 : Option (List ℕ)) (source0 source1 sink0 si
   abbrev pub Ends : Option Command → Type 0
   Ends None = EndsUnmeant
   Ends (Some commands.Run) = EndsRun Report
+  Ends (Some commands.Capture) = EndsRun Capture
   Ends (Some commands.Decode) = EndsListing (word_lines LAG) (word_listing LAG)
   Ends (Some commands.Messages) = EndsListing (message_lines LAG) (message_listing LAG)

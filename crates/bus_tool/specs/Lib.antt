@@ -4,3 +4,5 @@ pub mod Texts
 pub mod Due
 pub mod Ends
 pub mod Answers
+pub mod Scribes
+pub mod Captured

@@ -2,12 +2,14 @@
 #![tactic(auto)]
 
 mod built;
+mod capture;
 mod ended;
 mod input;
 mod listing;
 mod outcome;
 mod refusals;
 mod run;
+mod scribe;
 #[cfg(test)]
 mod tests;
 mod text;

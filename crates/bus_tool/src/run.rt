@@ -1,11 +1,13 @@
 //! The commands that run a plan: what an input is answered with.
 ghost use Rattle.std.specs.Prelude.{◌≡◌, ℕ, ◌≤◌, []};
 ghost use Rattle.bus_formats.specs.Accepted.{IsAccepted};
-ghost use Rattle.bus_run.specs.Stands.{FinishedStands};
+ghost use Rattle.bus_formats.specs.Plans.{PlanData};
+ghost use Rattle.bus_run.specs.Stands.{BusStands, FinishedStands};
 ghost use Rattle.bus_tool.specs.Answers.{Answers, AnswersPlan, AnswersRefused, AnswersRun, Wrote};
 ghost use Rattle.bus_tool.specs.Texts.{text_of};
 
 use crate::built::is_built;
+use crate::capture::write_capture;
 use crate::ended::Ended;
 use crate::input::LIMIT;
 use crate::outcome::status_of;
@@ -61,6 +63,7 @@ fn answer_plan<K: Sink>(text: Text, alloc: Global, plan: Plan, sink: &mut K) -> 
     }
     match text {
         Text::Report => report_run(alloc, &plan, sink),
+        Text::Capture => capture_run(alloc, plan.without_subsystems(), sink),
     }
 }
 
@@ -75,6 +78,41 @@ fn report_run<K: Sink>(alloc: Global, plan: &Plan, sink: &mut K) -> Ended
             bus: None,
         },
         Ok(bus) => write_report(alloc, bus.finish(), plan, sink),
+    }
+}
+
+// Runs a plan, and writes the capture of its run.
+fn capture_run<K: Sink>(alloc: Global, plan: Plan, sink: &mut K) -> Ended
+    requires { IsAccepted plan }
+    ensures { AnswersRun (K.held sink.old) (K.held sink.new) (K.faults sink.old) (K.faults sink.new) result.status result.bus Text.Capture plan }
+{
+    match Bus::prepare(alloc, &plan) {
+        Err(_) => Ended {
+            status: 6,
+            bus: None,
+        },
+        Ok(bus) => captured(bus, sink),
+    }
+}
+
+// Runs a bus, and writes the capture of its run.
+fn captured<K: Sink>(bus: Bus, sink: &mut K) -> Ended
+    requires { (plan : PlanData) × BusStands plan 0 bus }
+    ensures { (plan : PlanData) → BusStands plan 0 bus →
+        AnswersRun (K.held sink.old) (K.held sink.new) (K.faults sink.old) (K.faults sink.new) result.status result.bus Text.Capture plan }
+{
+    match write_capture(bus, sink) {
+        Ok(left) => {
+            let status = status_of(left.log());
+            Ended {
+                status,
+                bus: Some(left),
+            }
+        }
+        Err(_) => Ended {
+            status: 5,
+            bus: None,
+        },
     }
 }
 

@@ -5,4 +5,6 @@
 pub enum Text {
     /// The report of the run.
     Report,
+    /// The capture of what both channels show, where no station has a subsystem.
+    Capture,
 }

@@ -36,6 +36,7 @@ pub fn bus_tool<S: Source, K: Sink>(
             bus: None,
         },
         Some(Command::Run) => run(Text::Report, alloc, source, sink),
+        Some(Command::Capture) => run(Text::Capture, alloc, source, sink),
         Some(Command::Decode) => Ended {
             status: decode(source, sink),
             bus: None,
