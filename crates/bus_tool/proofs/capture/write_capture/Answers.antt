@@ -39,3 +39,10 @@ returns-clause-captured g c plan st =
     let so = c.ticks.invariant.captures plan st in
     let (here, same) = tick-ended plan so.ticks _ _ _ c.in_default.is (c.tick.ensures.ended plan so.ticks so.stands) (c.tick.ensures.shown plan so.ticks so.stands) in
     ends-whole plan _ _ _ _ _ c.finish.result so here c.in_ok-end.ensures.wrote (c.finish.ensures plan so.ticks (rw same so.stands))
+
+pub finish-requires : goal.finish-requires
+finish-requires g c =
+    let so = c.ticks.invariant.captures c.requires.0 c.requires.1 in
+    let ended = tick-ended c.requires.0 so.ticks _ _ _ c.in_default.is (c.tick.ensures.ended c.requires.0 so.ticks so.stands)
+        (c.tick.ensures.shown c.requires.0 so.ticks so.stands) in
+    (c.requires.0, so.ticks, rw ended.1 so.stands)
