@@ -44,5 +44,5 @@ pub finish-requires : goal.finish-requires
 finish-requires g c =
     let so = c.ticks.invariant.captures c.requires.0 c.requires.1 in
     let ended = tick-ended c.requires.0 so.ticks _ _ _ c.in_default.is (c.tick.ensures.ended c.requires.0 so.ticks so.stands)
-        (c.tick.ensures.shown c.requires.0 so.ticks so.stands) in
+    (c.tick.ensures.shown c.requires.0 so.ticks so.stands) in
     (c.requires.0, so.ticks, rw ended.1 so.stands)

@@ -7,13 +7,17 @@ returns-in-Ok g c plan st =
     let run = c.in-Ok.ensures.captured plan st in
     record {
       later = c.write_capture.ensures.cause.later;
-      answer = inl (run.ticks, run.ends, inl record {
-        left = c.in-Ok.left;
-        has = refl;
-        stands = run.wrote.0;
-        status_is = c.status_of-status.ensures ∙ ap status_of (c.log.ensures plan run.ticks run.wrote.0);
-        written = run.wrote.1;
-      });
+      answer = inl (
+        run.ticks,
+        run.ends,
+        inl record {
+          left = c.in-Ok.left;
+          has = refl;
+          stands = run.wrote.0;
+          status_is = c.status_of-status.ensures ∙ ap status_of (c.log.ensures plan run.ticks run.wrote.0);
+          written = run.wrote.1;
+        },
+      );
     }
 
 pub returns-in-Err : goal.returns-in-Err
