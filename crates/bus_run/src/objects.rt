@@ -34,8 +34,10 @@ pub fn deliver(subsystems: &mut Vec<Box<dyn Subsystem>>, place: usize, delivery:
     requires high { delivery.sub < 31 }
     ensures len { vec_len subsystems.new ≡ vec_len subsystems.old }
     ensures others { (k : ℕ) → k ≢ place → slice_get subsystems.new.items k ≡ slice_get subsystems.old.items k }
-    ensures told { (b : _) (c : _) → slice_get subsystems.old.items place ≡ Some b → slice_get subsystems.new.items place ≡ Some c → Takes (told b) (told c) delivery }
-    ensures spare { (b : _) (c : _) → slice_get subsystems.old.items place ≡ Some b → slice_get subsystems.new.items place ≡ Some c → spare b ≤ spare c + 1 }
+    ensures told { (b : _) (c : _) → slice_get subsystems.old.items place ≡ Some b →
+        slice_get subsystems.new.items place ≡ Some c → Takes (told b) (told c) delivery }
+    ensures spare { (b : _) (c : _) → slice_get subsystems.old.items place ≡ Some b →
+        slice_get subsystems.new.items place ≡ Some c → spare b ≤ spare c + 1 }
 {
     take(&mut subsystems[place], delivery)
 }
