@@ -36,7 +36,8 @@ kept-slot ear slots now i (Some word) valid is few =
     omega (arith, valid, most, more, few)
 
 -- what is kept after a cut
-kept-cut : (k : ℕ) (ear : Ear) (x : Sample) (past : List Sample) (cut : Cut) → k ≤ 39 → length past < 2 ^ 32 → ear.valid ≡ count_by is_some (running_slots k past) →
+kept-cut : (k : ℕ) (ear : Ear) (x : Sample) (past : List Sample) (cut : Cut) → k ≤ 39 → length past < 2 ^ 32 → ear.valid ≡ count_by is_some
+    (running_slots k past) →
     Tells k (x ∷ past) cut → Collects cut (running_slots k past) (running_slots k (x ∷ past)) →
     (after_cut cut ear).valid ≡ count_by is_some (running_slots k (x ∷ past))
 kept-cut k ear x past cuts.Nothing short small valid tells collects = valid ∙ ap (count_by is_some) (sym collects)

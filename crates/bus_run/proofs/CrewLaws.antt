@@ -111,7 +111,11 @@ below-more n = grind (arith, nat_tests)
 
 -- below the next, for another number
 below-by : (i n : ℕ) → i ≢ n → (i < n) ⊎ (n ≤ i) → nat_lt i (n + 1) ≡ nat_lt i n
-below-by i n other (inl low) = (let a : nat_lt i (n + 1) ≡ true = grind (arith, nat_tests, low) in let b : nat_lt i n ≡ true = grind (arith, nat_tests, low) in a ∙ sym b)
+below-by i n other (inl low) = (let a : nat_lt i (n + 1) ≡ true = grind (arith, nat_tests, low) in let b : nat_lt i n ≡ true = grind (
+  arith,
+  nat_tests,
+  low,
+) in a ∙ sym b)
 below-by i n other (inr high) =
     let above : n < i = omega (arith, high, other) in
     let a : nat_lt i (n + 1) ≡ false = grind (arith, nat_tests, above) in
@@ -130,16 +134,19 @@ stands-before plan place shown past crew s value hears here at =
     subst (λ b. StationStands LAG s (starts plan s) [] [] value (if b then shown ∷ past else past)) (not-below place) (hears.each place s value here at)
 
 -- each station after one more heard the tick
-each-more : (plan : PlanData) (place : ℕ) (shown : Pair) (past : List Pair) (crew : Crew) (own : StationData) (new : Station) → place < length crew.stations.items →
+each-more : (plan : PlanData) (place : ℕ) (shown : Pair) (past : List Pair) (crew : Crew) (own : StationData) (new : Station) →
+    place < length crew.stations.items →
     CrewHears plan place shown past crew → slice_get plan.stations place ≡ Some own → StationStands LAG own (starts plan own) [] [] new (shown ∷ past) →
     (i : ℕ) (s : StationData) (value : Station) → (i ≡ place) ⊎ (i ≢ place) → slice_get plan.stations i ≡ Some s →
     slice_get (set crew.stations.items place new) i ≡ Some value → StationStands LAG s (starts plan s) [] [] value (heard_at i (place + 1) shown past)
 each-more plan place shown past crew own new within hears here stands i s value (inl same) found at =
-    let at-place : slice_get (set crew.stations.items place new) place ≡ Some value = subst (λ j. slice_get (set crew.stations.items place new) j ≡ Some value) same at in
+    let at-place : slice_get (set crew.stations.items place new) place ≡ Some value = subst (λ j. slice_get
+    (set crew.stations.items place new) j ≡ Some value) same at in
     let new-is : new ≡ value = same_Some new value (sym (set-same crew.stations.items place new within) ∙ at-place) in
     let own-is : own ≡ s = same_Some own s (sym here ∙ subst (λ j. slice_get plan.stations j ≡ Some s) same found) in
     let stands-new : StationStands LAG s (starts plan s) [] [] value (shown ∷ past) =
-    subst (λ v. StationStands LAG s (starts plan s) [] [] v (shown ∷ past)) new-is (subst (λ d. StationStands LAG d (starts plan d) [] [] new (shown ∷ past)) own-is stands) in
+    subst (λ v. StationStands LAG s (starts plan s) [] [] v (shown ∷ past)) new-is (subst (λ d. StationStands LAG d (starts plan d) [] [] new
+    (shown ∷ past)) own-is stands) in
     rw same (subst (λ b. StationStands LAG s (starts plan s) [] [] value (if b then shown ∷ past else past)) (sym (below-more place)) stands-new)
 each-more plan place shown past crew own new within hears here stands i s value (inr other) found at =
     subst (λ b. StationStands LAG s (starts plan s) [] [] value (if b then shown ∷ past else past)) (sym (below-other i place other))
@@ -169,11 +176,13 @@ hears-more plan place shown past crew next own new within hears here stands is e
 }
 
 -- before the first station heard it
-pub hears-start : (most : ℕ) (plan : PlanData) (shown : Pair) (past : List Pair) (crew : Crew) → CrewStands most plan crew past → CrewHears plan 0 shown past crew
+pub hears-start : (most : ℕ) (plan : PlanData) (shown : Pair) (past : List Pair) (crew : Crew) → CrewStands most plan crew past →
+    CrewHears plan 0 shown past crew
 hears-start most plan shown past crew st = record {
   all = st.stations.all;
   each = λ i s value found at.
-      subst (λ b. StationStands LAG s (starts plan s) [] [] value (if b then shown ∷ past else past)) (sym (none-below i)) (st.stations.each i s value found at);
+      subst (λ b. StationStands LAG s (starts plan s) [] [] value (if b then shown ∷ past else past)) (sym (none-below i))
+      (st.stations.each i s value found at);
   attempts_are = st.attempts_are ∙ sym (append-nil (attempts LAG plan [] [] [] past));
 }
 
@@ -184,12 +193,17 @@ hears-end most place plan shown past crew whole room hears = record {
   stations = record {
     all = hears.all;
     each = λ i s value found at.
-        let within : i < place = (let below : i < length crew.stations.items = slice_get_within crew.stations.items i value at in omega (arith, below, whole)) in
+        let within : i < place = (let below : i < length crew.stations.items = slice_get_within crew.stations.items i value at in omega (
+          arith,
+          below,
+          whole,
+        )) in
         let test : nat_lt i place ≡ true = grind (arith, nat_tests, within) in
         subst (λ b. StationStands LAG s (starts plan s) [] [] value (if b then shown ∷ past else past)) test (hears.each i s value found at);
   };
   attempts_are = hears.attempts_are
-      ∙ ap (λ ss. attempts LAG plan [] [] [] past ++ flat_map (ended_of plan (shown ∷ past)) ss) (ap (λ n. take n plan.stations) (whole ∙ hears.all) ∙ take-all plan.stations)
+      ∙ ap (λ ss. attempts LAG plan [] [] [] past ++ flat_map (ended_of plan (shown ∷ past)) ss) (ap (λ n. take n plan.stations) (whole ∙ hears.all)
+      ∙ take-all plan.stations)
       ∙ sym (attempts-next plan shown past);
   room = room;
 }

@@ -23,7 +23,8 @@ not-not false = refl
 pub none-taking : (idle : Bool) (role : Role) (holds : Bool) (taking : Option ℕ) → role ≡ role_by holds (if holds then taking else None) →
     (idle && not (takes role)) ≡ (idle && is_none (if holds then taking else None))
 none-taking idle role holds taking is =
-    ap (λ r. idle && not (takes r)) is ∙ ap (λ b. idle && not b) (takes-by holds taking) ∙ ap (λ b. idle && b) (not-not (is_none (if holds then taking else None)))
+    ap (λ r. idle && not (takes r)) is ∙ ap (λ b. idle && not b) (takes-by holds taking) ∙ ap (λ b. idle && b) (not-not (is_none
+    (if holds then taking else None)))
 
 -- the elements from a place on
 from : {A : Type 0} (xs : List A) (i : ℕ) (x : A) → slice_get xs i ≡ Some x → drop i xs ≡ x ∷ drop (suc i) xs

@@ -33,7 +33,8 @@ ended-by plan u o shown answers none (inl ended) = ended
 ended-by plan u o shown answers none (inr on) = absurd (an-answer o shown (answers on) none)
 
 -- it had ended where there is none
-pub has-ended : (plan : PlanData) (u : ℕ) (o : Option Pair) (shown : Pair) → (has_ended plan u ≡ false → o ≡ Some shown) → is_some o ≡ false → has_ended plan u ≡ true
+pub has-ended : (plan : PlanData) (u : ℕ) (o : Option Pair) (shown : Pair) → (has_ended plan u ≡ false → o ≡ Some shown) → is_some o ≡ false →
+    has_ended plan u ≡ true
 has-ended plan u o shown answers none = ended-by plan u o shown answers none (cases_Bool (has_ended plan u))
 
 -- before one tick more, by cases

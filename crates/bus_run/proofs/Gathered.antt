@@ -37,7 +37,8 @@ swapped_cases : {A : Type 0} (xs : List A) (i j : ℕ) (d z : A) → i ≤ j →
     take (i + 1) (set (set xs i (get_or xs j d)) j z) ≡ take i xs ++ get_or xs j d ∷ []
 swapped_cases xs i j d z le within z-is (inl same) =
     rw (← same)
-    (take_more_set (set xs i (get_or xs i d)) i z (omega (arith, length-set xs i (get_or xs i d))) ∙ ap (λ ys. ys ++ z ∷ []) (take-set xs i (get_or xs i d)) ∙ ap (λ y. take i xs ++ y ∷ []) z-is)
+    (take_more_set (set xs i (get_or xs i d)) i z (omega (arith, length-set xs i (get_or xs i d))) ∙ ap (λ ys. ys ++ z ∷ []) (take-set xs i
+    (get_or xs i d)) ∙ ap (λ y. take i xs ++ y ∷ []) z-is)
 swapped_cases xs i j d z le within z-is (inr other) =
     take-set-le (i + 1) (set xs i (get_or xs j d)) j z (omega arith) ∙ take_more_set xs i (get_or xs j d) (omega arith)
 
@@ -68,7 +69,12 @@ gathered_none old now named kept address within none so =
       len = so.len;
       before = so.before;
       few = omega (arith, so.few);
-      front = (so.front.0, so.front.1 ∙ ap (λ xs. so.front.0 ++ places_from address xs) (drop-cons named address None within) ∙ ap (λ x. so.front.0 ++ places_from address (x ∷ drop (suc address) named)) none, so.front.2);
+      front = (
+        so.front.0,
+        so.front.1 ∙ ap (λ xs. so.front.0 ++ places_from address xs) (drop-cons named address None within) ∙ ap
+            (λ x. so.front.0 ++ places_from address (x ∷ drop (suc address) named)) none,
+        so.front.2,
+      );
       rest = record { recorders = λ k d low high. so.rest.recorders k d (omega arith) high; tallies = λ k d low high. so.rest.tallies k d (omega arith) high };
     }
 
@@ -79,7 +85,8 @@ untouched_item old now address place d within rest (inl is) = rest.recorders pla
 untouched_item old now address place d within rest (inr is) = rest.tallies place d (omega arith) (omega arith)
 
 -- an address that names an object, at its place
-gathered_at : {A : Type 0} (old now : List A) (named : List (Option SubsystemKind)) (kept address place : ℕ) (kind : SubsystemKind) (d : A) → address < 31 → length named ≡ 31 →
+gathered_at : {A : Type 0} (old now : List A) (named : List (Option SubsystemKind)) (kept address place : ℕ) (kind : SubsystemKind) (d : A) →
+    address < 31 → length named ≡ 31 →
     place ≡ place_of kind address → get_or named address None ≡ Some kind → Gathered old now named kept address →
     (place ≡ address) ⊎ (place ≡ 31 + address) → Gathered old (swap now kept place) named (kept + 1) (suc address)
 gathered_at old now named kept address place kind d within all at some so choice =
@@ -103,13 +110,16 @@ gathered_at old now named kept address place kind d within all at some so choice
             (slice_get-get_or old place d (omega (arith, so.before)) ∙ ap Some (sym item))),
       );
       rest = record {
-        recorders = λ k e above below. swapped_other now kept place k e (omega arith) (omega arith) (omega arith) (grind (arith, choice)) ∙ so.rest.recorders k e (omega arith) below;
-        tallies = λ k e above below. swapped_other now kept place k e (omega arith) (omega arith) (omega arith) (grind (arith, choice)) ∙ so.rest.tallies k e (omega arith) below;
+        recorders = λ k e above below. swapped_other now kept place k e (omega arith) (omega arith) (omega arith) (grind (arith, choice))
+            ∙ so.rest.recorders k e (omega arith) below;
+        tallies = λ k e above below. swapped_other now kept place k e (omega arith) (omega arith) (omega arith) (grind (arith, choice))
+            ∙ so.rest.tallies k e (omega arith) below;
       };
     }
 
 -- an address that names an object
-pub gathered_some : {A : Type 0} (old now : List A) (named : List (Option SubsystemKind)) (kept address place : ℕ) (kind : SubsystemKind) (d : A) → address < 31 → length named ≡ 31 →
+pub gathered_some : {A : Type 0} (old now : List A) (named : List (Option SubsystemKind)) (kept address place : ℕ) (kind : SubsystemKind) (d : A) →
+    address < 31 → length named ≡ 31 →
     place ≡ place_of kind address → get_or named address None ≡ Some kind → Gathered old now named kept address →
     Gathered old (swap now kept place) named (kept + 1) (suc address)
 gathered_some old now named kept address place kind d within all at some so =
@@ -117,7 +127,8 @@ gathered_some old now named kept address place kind d within all at some so =
     gathered_at old now named kept address place kind d within all at some so choice
 
 -- the same for the list and the number after the exchange
-pub gathered_any : {A : Type 0} (old now next : List A) (named : List (Option SubsystemKind)) (kept more address place : ℕ) (kind : SubsystemKind) → address < 31 → length named ≡ 31 →
+pub gathered_any : {A : Type 0} (old now next : List A) (named : List (Option SubsystemKind)) (kept more address place : ℕ) (kind : SubsystemKind) →
+    address < 31 → length named ≡ 31 →
     place ≡ place_of kind address → get_or named address None ≡ Some kind → Gathered old now named kept address →
     next ≡ swap now kept place → more ≡ kept + 1 → Gathered old next named more (address + 1)
 gathered_any old [] next named kept more address place kind within all at some so is count = let len = so.len in absurd (omega arith)

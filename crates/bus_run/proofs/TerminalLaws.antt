@@ -47,13 +47,16 @@ no-blocks items address buffers = append-nil items
 
 -- the block of the next subaddress
 blocks-next : (items : List BlockEnd) (address : ℕ) (buffers : Blocks) (n : ℕ) →
-    (items ++ blocks_below address buffers n) ++ option_to_list (block_of address (suc n) (received_in buffers (suc n))) ≡ items ++ blocks_below address buffers (suc n)
+    (items ++ blocks_below address buffers n) ++ option_to_list (block_of address (suc n) (received_in buffers
+    (suc n))) ≡ items ++ blocks_below address buffers (suc n)
 unfolding blocks_below
-blocks-next items address buffers n = append_assoc items (blocks_below address buffers n) (option_to_list (block_of address (suc n) (received_in buffers (suc n))))
+blocks-next items address buffers n = append_assoc items (blocks_below address buffers n) (option_to_list (block_of address (suc n) (received_in buffers
+    (suc n))))
 
 -- the blocks with those of one subaddress more
 pub blocks-more : (items : List BlockEnd) (address : ℕ) (buffers : Blocks) (sub : ℕ) → 1 ≤ sub →
-    (items ++ blocks_below address buffers (sub - 1)) ++ option_to_list (block_of address sub (received_in buffers sub)) ≡ items ++ blocks_below address buffers (sub + 1 - 1)
+    (items ++ blocks_below address buffers (sub - 1)) ++ option_to_list (block_of address sub
+    (received_in buffers sub)) ≡ items ++ blocks_below address buffers (sub + 1 - 1)
 blocks-more items address buffers zero low = absurd (omega (arith, low))
 blocks-more items address buffers (suc n) low =
     let before : suc n - 1 ≡ n = omega arith in
@@ -87,7 +90,8 @@ pub put-one : (found : List Present) (p : Present) (old new : Ends) (end : Termi
     p.plan.terminal.address ≡ address → buffers.received ≡ p.memory.received → end ≡ terminal_end p → new.terminals.items ≡ old.terminals.items ++ end ∷ [] →
     new.blocks.items ≡ old.blocks.items ++ blocks_below address buffers 30 → ArePut (found ++ p ∷ []) new
 put-one found p old new end address buffers put at same is terminals-are blocks-are = record {
-  terminals = terminals-are ∙ ap (λ xs. xs ++ end ∷ []) put.terminals ∙ ap (λ e. map terminal_end found ++ e ∷ []) is ∙ sym (map-append terminal_end found (p ∷ []));
+  terminals = terminals-are ∙ ap (λ xs. xs ++ end ∷ []) put.terminals ∙ ap (λ e. map terminal_end found ++ e ∷ []) is ∙ sym
+      (map-append terminal_end found (p ∷ []));
   blocks = blocks-are ∙ ap (λ xs. xs ++ blocks_below address buffers 30) put.blocks
       ∙ ap (λ xs. flat_map blocks_of found ++ xs) (sym (blocks-all p address buffers 30 at same) ∙ sym (flat_map-one blocks_of p))
       ∙ sym (flat_map-append blocks_of found (p ∷ []));
@@ -117,12 +121,14 @@ test-not a b is = grind (arith, nat_tests, is)
 -- a terminal with the address
 pub at-address : (p : Present) (address : ℕ) → p.plan.terminal.address ≡ address → terminals_at (p ∷ []) address ≡ p ∷ []
 at-address p address is =
-    found-one (λ (s : Present). if is_at address s then Some s else None) p (Some p) (ap (λ b. if b then Some p else None) (test-of p.plan.terminal.address address is))
+    found-one (λ (s : Present). if is_at address s then Some s else None) p (Some p) (ap (λ b. if b then Some p else None)
+    (test-of p.plan.terminal.address address is))
 
 -- a terminal with another
 pub at-another : (p : Present) (address : ℕ) → p.plan.terminal.address ≢ address → terminals_at (p ∷ []) address ≡ []
 at-another p address isn't =
-    found-one (λ (s : Present). if is_at address s then Some s else None) p None (ap (λ b. if b then Some p else None) (test-not p.plan.terminal.address address isn't))
+    found-one (λ (s : Present). if is_at address s then Some s else None) p None (ap (λ b. if b then Some p else None)
+    (test-not p.plan.terminal.address address isn't))
 
 -- every station is present
 presents-are : (plan : PlanData) (past : List Pair) → presents LAG plan [] [] [] past ≡ map (present_after LAG plan [] [] [] past) plan.stations
@@ -136,14 +142,17 @@ so-far-more plan past address place s here =
     let ps : List Present = presents LAG plan [] [] [] past in
     let all : ps ≡ map f plan.stations = presents-are plan past in
     let next : take (place + 1) ps ≡ take place ps ++ f s ∷ [] =
-    ap (take (place + 1)) all ∙ take-map f (place + 1) plan.stations ∙ ap (map f) (ap (λ n. take n plan.stations) (add-one place) ∙ take-next plan.stations place s here)
+    ap (take (place + 1)) all ∙ take-map f (place + 1) plan.stations ∙ ap (map f) (ap (λ n. take n plan.stations) (add-one place)
+    ∙ take-next plan.stations place s here)
     ∙ map-append f (take place plan.stations) (s ∷ []) ∙ ap (λ xs. xs ++ f s ∷ []) (sym (take-map f place plan.stations) ∙ ap (take place) (sym all)) in
     append_assoc (flat_map (terminals_at ps) (range_with_len 0 address)) (terminals_at (take place ps) address) (terminals_at (f s ∷ []) address)
     ∙ ap (λ xs. flat_map (terminals_at ps) (range_with_len 0 address) ++ xs)
-    (sym (filter_map-append (λ (q : Present). if is_at address q then Some q else None) (take place ps) (f s ∷ [])) ∙ ap (λ xs. terminals_at xs address) (sym next))
+    (sym (filter_map-append (λ (q : Present). if is_at address q then Some q else None) (take place ps) (f s ∷ [])) ∙ ap (λ xs. terminals_at xs address)
+    (sym next))
 
 -- after the last place the next address begins
-pub so-far-turns : (plan : PlanData) (past : List Pair) (address place : ℕ) → place ≡ length plan.stations → so_far plan past address place ≡ so_far plan past (address + 1) 0
+pub so-far-turns : (plan : PlanData) (past : List Pair) (address place : ℕ) → place ≡ length plan.stations →
+    so_far plan past address place ≡ so_far plan past (address + 1) 0
 so-far-turns plan past address place whole =
     let f = present_after LAG plan [] [] [] past in
     let ps : List Present = presents LAG plan [] [] [] past in

@@ -107,7 +107,8 @@ impl Ends {
         requires block_room { vec_len self.old.blocks + 30 ≤ vec_capacity self.old.blocks }
         ensures put { (p : Present) (hearing : Hearing) (found : List Present) →
             TerminalStands LAG p.plan.terminal [] terminal.now hearing →
-            p.memory ≡ memory_after LAG p.plan.terminal [] hearing → p.plan.terminal.address ≡ address → ArePut found self.old → ArePut (found ++ p ∷ []) self.new }
+            p.memory ≡ memory_after LAG p.plan.terminal [] hearing → p.plan.terminal.address ≡ address → ArePut found self.old → ArePut
+            (found ++ p ∷ []) self.new }
         ensures addresses { self.new.addresses ≡ self.old.addresses }
         ensures terminals { vec_len self.new.terminals ≡ vec_len self.old.terminals + 1 }
         ensures blocks { vec_len self.new.blocks ≤ vec_len self.old.blocks + 30 }
