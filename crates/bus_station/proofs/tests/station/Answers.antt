@@ -1,6 +1,5 @@
-use Rattle.std.proofs.Common.{◌≡◌, ℕ, false, [], refl, arith}
+use Rattle.std.proofs.Common.{◌≡◌, ℕ, ◌^◌, [], refl, arith, rules}
 use Rattle.std.proofs.Math.Nat.{zero-div}
-use Rattle.std.proofs.lemmas.List.Elements.{All-nil}
 use Rattle.bus_formats.specs.Accepted.{ListsOnly}
 use Rattle.bus_station.proofs.tests.station.Goals as goal
 
@@ -8,8 +7,8 @@ use Rattle.bus_station.proofs.tests.station.Goals as goal
 none-listed : (P : ℕ → Type 0) → ListsOnly P 0
 none-listed P n h = absurd (let none = zero-div (2 ^ n) in omega (arith, h, none))
 
-pub new-2-requires : goal.new-2-requires
-new-2-requires c = record {
+pub new-requires-2 : goal.new-requires-2
+new-requires-2 c = record {
   ranges = record {
     terminal = record {
       address = c.requires.address;
