@@ -9,3 +9,4 @@ pub mod BusLaws
 pub mod TerminalLaws
 pub mod FinishLaws
 pub mod PrepareLaws
+pub mod Gathered

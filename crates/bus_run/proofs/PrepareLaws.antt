@@ -16,6 +16,7 @@ get-before [] y i within = absurd (omega (arith, within))
 get-before (x ∷ xs) y zero within = refl
 get-before (x ∷ xs) y (suc i) within = get-before xs y i (omega (arith, within))
 
+-- the last element
 get-last : {A : Type 0} (xs : List A) (y : A) → slice_get (xs ++ y ∷ []) (length xs) ≡ Some y
 get-last [] y = refl
 get-last (x ∷ xs) y = get-last xs y
@@ -24,13 +25,17 @@ get-last (x ∷ xs) y = get-last xs y
 pub made-one : (plan : PlanData) (s item copied : StationData) (start : ℕ) (b : Bool) (value : Station) → StationStands LAG copied b [] [] value [] →
     copied ≡ item → item ≡ s → b ≡ (item.terminal.address == start) → plan.start ≡ start → StationStands LAG s (starts plan s) [] [] value []
 made-one plan s item copied start b value stands same is by at =
-    let starts-so : b ≡ (s.terminal.address == plan.start) = by ∙ ap (λ (d : StationData). d.terminal.address == start) is ∙ ap (λ n. s.terminal.address == n) (sym at) in
+    let starts-so : b ≡ (s.terminal.address == plan.start) = by ∙ ap (λ (d : StationData). d.terminal.address == start) is ∙ ap
+    (λ n. s.terminal.address == n) (sym at) in
     subst (λ x. StationStands LAG s x [] [] value []) starts-so (subst (λ d. StationStands LAG d b [] [] value []) (same ∙ is) stands)
 
+-- each station after one more was made, by cases
 made-by : (plan : PlanData) (made : List Station) (stations : List StationData) (new : Station) (i : ℕ) (s : StationData) (value : Station) →
-    ((i : ℕ) (s : StationData) (value : Station) → slice_get stations i ≡ Some s → slice_get made i ≡ Some value → StationStands LAG s (starts plan s) [] [] value []) →
+    ((i : ℕ) (s : StationData) (value : Station) → slice_get stations i ≡ Some s → slice_get made i ≡ Some value → StationStands LAG s
+    (starts plan s) [] [] value []) →
     ((s : StationData) → slice_get stations (length made) ≡ Some s → StationStands LAG s (starts plan s) [] [] new []) →
-    slice_get stations i ≡ Some s → slice_get (made ++ new ∷ []) i ≡ Some value → (i < length made) ⊎ (length made ≤ i) → StationStands LAG s (starts plan s) [] [] value []
+    slice_get stations i ≡ Some s → slice_get (made ++ new ∷ []) i ≡ Some value → (i < length made) ⊎ (length made ≤ i) → StationStands LAG s
+    (starts plan s) [] [] value []
 made-by plan made stations new i s value before last here at (inl low) = before i s value here (sym (get-before made new i low) ∙ at)
 made-by plan made stations new i s value before last here at (inr high) =
     let within : i < length (made ++ new ∷ []) = slice_get_within (made ++ new ∷ []) i value at in
@@ -39,8 +44,10 @@ made-by plan made stations new i s value before last here at (inr high) =
     let is : new ≡ value = same_Some new value (sym (get-last made new) ∙ ap (slice_get (made ++ new ∷ [])) (sym place) ∙ at) in
     subst (λ v. StationStands LAG s (starts plan s) [] [] v []) is (last s (ap (slice_get stations) (sym place) ∙ here))
 
+-- each station after one more was made
 pub made-more : (plan : PlanData) (made next : List Station) (stations : List StationData) (new : Station) (i : ℕ) (s : StationData) (value : Station) →
-    ((i : ℕ) (s : StationData) (value : Station) → slice_get stations i ≡ Some s → slice_get made i ≡ Some value → StationStands LAG s (starts plan s) [] [] value []) →
+    ((i : ℕ) (s : StationData) (value : Station) → slice_get stations i ≡ Some s → slice_get made i ≡ Some value → StationStands LAG s
+    (starts plan s) [] [] value []) →
     ((s : StationData) → slice_get stations (length made) ≡ Some s → StationStands LAG s (starts plan s) [] [] new []) → next ≡ made ++ new ∷ [] →
     slice_get stations i ≡ Some s → slice_get next i ≡ Some value → StationStands LAG s (starts plan s) [] [] value []
 made-more plan made next stations new i s value before last is here at =

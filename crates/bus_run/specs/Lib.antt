@@ -6,3 +6,4 @@ pub mod Crews
 pub mod Ends
 pub mod Terminals
 pub mod Stands
+pub mod Kept

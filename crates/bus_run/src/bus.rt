@@ -77,7 +77,8 @@ impl Bus {
         ensures ended { (plan : PlanData) (t : ℕ) → BusStands plan t self.old → has_ended plan t ≡ true → (result ≡ None) × (self.new ≡ self.old) }
         ensures shown { (plan : PlanData) (t : ℕ) → BusStands plan t self.old → has_ended plan t ≡ false →
             (result ≡ Some (shown_in plan t)) × BusStands plan (suc t) self.new }
-        ensures nearer { IsSome result → (self.new.most_ticks ≡ self.old.most_ticks) × (self.old.ticks < self.old.most_ticks) × (self.new.ticks ≡ self.old.ticks + 1) }
+        ensures nearer { IsSome result →
+            (self.new.most_ticks ≡ self.old.most_ticks) × (self.old.ticks < self.old.most_ticks) × (self.new.ticks ≡ self.old.ticks + 1) }
     {
         if self.has_ended() {
             return None;

@@ -1,5 +1,6 @@
 //! The terminals at the end of a run, and their blocks.
-ghost use Rattle.std.specs.Prelude.{◌≡◌, ◌≤◌, ◌<◌, ◌+◌, ◌*◌, ◌++◌, ℕ, List, [], ◌∷◌, length, map, flat_map, slice_get, Some, option_to_list, vec_len, vec_capacity};
+ghost use Rattle.std.specs.Prelude.{◌≡◌, ◌≤◌, ◌<◌, ◌+◌, ◌*◌, ◌++◌, ℕ, List, []};
+ghost use Rattle.std.specs.Prelude.{◌∷◌, length, map, flat_map, slice_get, Some, option_to_list, vec_len, vec_capacity};
 ghost use Rattle.bus_base.specs.declared.samples.Pair.{Pair};
 ghost use Rattle.bus_line.specs.declared.cutter.TheConstants.{LAG};
 ghost use Rattle.bus_formats.specs.Plans.{TerminalData, StationData, PlanData};
@@ -60,7 +61,8 @@ impl Ends {
     // Puts the terminals with this address.
     fn put_address(&mut self, address: u8, stations: &[Station])
         requires few { length stations.now ≤ 32 }
-        requires stand { (plan : PlanData) × (past : List Pair) × StationsStand plan stations.now past × (self.old.addresses.items ≡ map (λ s. s.terminal.address) plan.stations) }
+        requires stand { (plan : PlanData) × (past : List Pair) × StationsStand plan stations.now past
+            × (self.old.addresses.items ≡ map (λ s. s.terminal.address) plan.stations) }
         requires terminal_room { vec_len self.old.terminals + 32 ≤ vec_capacity self.old.terminals }
         requires block_room { vec_len self.old.blocks + 960 ≤ vec_capacity self.old.blocks }
         ensures put { (plan : PlanData) (past : List Pair) → self.old.addresses.items ≡ map (λ s. s.terminal.address) plan.stations →
@@ -82,7 +84,8 @@ impl Ends {
         requires stands { (plan : PlanData) × (s : StationData) × (past : List Pair) × StationStands LAG s (starts plan s) [] [] station.now past }
         requires terminal_room { vec_len self.old.terminals < vec_capacity self.old.terminals }
         requires block_room { vec_len self.old.blocks + 30 ≤ vec_capacity self.old.blocks }
-        ensures put { (plan : PlanData) (s : StationData) (past : List Pair) (found : List Present) → self.old.addresses.items ≡ map (λ s. s.terminal.address) plan.stations →
+        ensures put { (plan : PlanData) (s : StationData) (past : List Pair) (found : List Present) →
+            self.old.addresses.items ≡ map (λ s. s.terminal.address) plan.stations →
             slice_get plan.stations place ≡ Some s → StationStands LAG s (starts plan s) [] [] station.now past → ArePut found self.old →
             ArePut (found ++ terminals_at (present_after LAG plan [] [] [] past s ∷ []) address) self.new }
         ensures addresses { self.new.addresses ≡ self.old.addresses }
@@ -102,8 +105,10 @@ impl Ends {
         requires stands { (plan : TerminalData) × (hearing : Hearing) × TerminalStands LAG plan [] terminal.now hearing }
         requires terminal_room { vec_len self.old.terminals < vec_capacity self.old.terminals }
         requires block_room { vec_len self.old.blocks + 30 ≤ vec_capacity self.old.blocks }
-        ensures put { (p : Present) (hearing : Hearing) (found : List Present) → TerminalStands LAG p.plan.terminal [] terminal.now hearing →
-            p.memory ≡ memory_after LAG p.plan.terminal [] hearing → p.plan.terminal.address ≡ address → ArePut found self.old → ArePut (found ++ p ∷ []) self.new }
+        ensures put { (p : Present) (hearing : Hearing) (found : List Present) →
+            TerminalStands LAG p.plan.terminal [] terminal.now hearing →
+            p.memory ≡ memory_after LAG p.plan.terminal [] hearing → p.plan.terminal.address ≡ address → ArePut found self.old → ArePut
+            (found ++ p ∷ []) self.new }
         ensures addresses { self.new.addresses ≡ self.old.addresses }
         ensures terminals { vec_len self.new.terminals ≡ vec_len self.old.terminals + 1 }
         ensures blocks { vec_len self.new.blocks ≤ vec_len self.old.blocks + 30 }

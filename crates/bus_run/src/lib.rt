@@ -15,7 +15,9 @@ pub mod copies;
 pub mod crew;
 pub mod ends;
 pub mod finished;
+pub mod kept;
 pub mod monitor;
+pub mod objects;
 pub mod prepare;
 pub mod room;
 

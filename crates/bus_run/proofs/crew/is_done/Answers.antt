@@ -10,7 +10,8 @@ pub returns-then-is_idle : goal.returns-then-is_idle
 returns-then-is_idle c plan s past st =
     let idle : is_idle LAG s (starts plan s) [] [] past ≡ true = sym (c.is_idle.ensures s (starts plan s) [] [] past st) ∙ c.if-is_idle.true in
     ap not c.is_taking.ensures
-    ∙ none-taking true c.role.result (holds_control LAG s (starts plan s) [] [] past) (taking_from (length past) (course_after LAG s (starts plan s) [] [] past).opening)
+    ∙ none-taking true c.role.result (holds_control LAG s (starts plan s) [] [] past) (taking_from (length past) (course_after LAG s
+    (starts plan s) [] [] past).opening)
     (c.role.ensures s (starts plan s) [] [] past st)
     ∙ ap (λ b. b && is_none (takes_control LAG s (starts plan s) [] [] past)) (sym idle)
 

@@ -15,7 +15,8 @@ pub loop-sub-preserved : goal.loop-sub-preserved
 loop-sub-preserved c = record {
   items = c.put_block.ensures.items
       ∙ ap (λ xs. xs ++ option_to_list (block_of c.args.address c.loop-sub.sub c.front.result.now)) c.loop-sub.invariant.items
-      ∙ ap (λ ws. (c.args.blocks.now.items ++ blocks_below c.args.address c.args.buffers.now (c.loop-sub.sub - 1)) ++ option_to_list (block_of c.args.address c.loop-sub.sub ws)) c.front.ensures.block
+      ∙ ap (λ ws. (c.args.blocks.now.items ++ blocks_below c.args.address c.args.buffers.now (c.loop-sub.sub - 1)) ++ option_to_list
+      (block_of c.args.address c.loop-sub.sub ws)) c.front.ensures.block
       ∙ blocks-more c.args.blocks.now.items c.args.address c.args.buffers.now c.loop-sub.sub c.loop-sub.auto.sub;
   used = (let a = c.put_block.ensures.len in let b = c.loop-sub.invariant.used in omega (arith, a, b));
   room = c.put_block.ensures.room ∙ c.loop-sub.invariant.room;

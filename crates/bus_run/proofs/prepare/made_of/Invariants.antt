@@ -11,6 +11,7 @@ use Rattle.bus_run.proofs.prepare.made_of.Given as goal
 abbrev pub invariant-loop-station : goal.invariant-loop-station
 invariant-loop-station l = record {
   all : length l.made.items ≡ l.station-index;
-  each : (plan : PlanData) (i : ℕ) (s : StationData) (value : Station) → plan.start ≡ l.start → slice_get l.stations i ≡ Some s → slice_get l.made.items i ≡ Some value →
+  each : (plan : PlanData) (i : ℕ) (s : StationData) (value : Station) → plan.start ≡ l.start → slice_get l.stations i ≡ Some s →
+      slice_get l.made.items i ≡ Some value →
       StationStands LAG s (starts plan s) [] [] value [];
 }

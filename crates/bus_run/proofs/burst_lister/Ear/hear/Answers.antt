@@ -11,7 +11,8 @@ follow-requires c =
 
 pub returns-clause-told : goal.returns-clause-told
 returns-clause-told c past st here =
-    c.follow.ensures.told ∙ ear-tells LAG c.args.channel c.args.self.now c.args.sample past c.args.tick c.hear-cut.result here st (c.hear-cut.ensures.cut past st.cutter)
+    c.follow.ensures.told ∙ ear-tells LAG c.args.channel c.args.self.now c.args.sample past c.args.tick c.hear-cut.result here st
+    (c.hear-cut.ensures.cut past st.cutter)
 
 pub returns-clause-stands : goal.returns-clause-stands
 returns-clause-stands c past st here =

@@ -33,8 +33,19 @@ hear-requires c =
     let small = going.small in
     let ticks = st.ticks_are in
     let left = going.attempts_left in
-    let are = ap length st.crew.attempts_are in
-    (most_attempts plan, plan, world LAG plan [] [] [] t, st.crew, world-length plan t ∙ sym st.ticks_are, omega (arith, small, ticks), omega (arith, left, are))
+    let are = ap length st.crew.attempts_are in (
+      most_attempts plan,
+      plan,
+      world LAG plan [] [] [] t,
+      st.crew,
+      world-length plan t ∙ sym st.ticks_are,
+      omega (arith, small, ticks),
+      omega (
+        arith,
+        left,
+        are,
+      ),
+    )
 
 pub hear-requires-2 : goal.hear-requires-2
 unfolding BusStands
@@ -80,7 +91,8 @@ returns-clause-stands c plan t st on =
     let stations : StationsStand plan c.stations.result.now past = subst (λ ss. StationsStand plan ss past) (sym c.stations.ensures) st.crew.stations in
     let here : length past ≡ c.args.self.now.ticks = world-length plan t ∙ sym st.ticks_are in
     let next : c.show-shown.result ∷ past ≡ world LAG plan [] [] [] (suc t) =
-    ap (λ p. p ∷ past) (c.show-shown.ensures.pair plan past (trace LAG plan [] [] [] t).driven stations st.cable ∙ ap (λ ds. shown plan.faults ds) (sym (driven-next plan t)))
+    ap (λ p. p ∷ past) (c.show-shown.ensures.pair plan past (trace LAG plan [] [] [] t).driven stations st.cable ∙ ap (λ ds. shown plan.faults ds) (sym
+    (driven-next plan t)))
     ∙ sym (world-next plan t) in
     record {
       crew = subst (λ p. CrewStands (most_attempts plan) plan c.hear.new.self p) next (c.hear.ensures (most_attempts plan) plan past st.crew here);

@@ -44,7 +44,8 @@ pub loop-address-preserved : goal.loop-address-preserved
 loop-address-preserved c = record {
   addresses = c.put_address.ensures.addresses ∙ c.loop-address.invariant.addresses;
   put = λ plan past ends st.
-      c.put_address.ensures.put plan past (ap (λ v. v.items) c.loop-address.invariant.addresses ∙ ends.addresses_are) st (c.loop-address.invariant.put plan past ends st);
+      c.put_address.ensures.put plan past (ap (λ v. v.items) c.loop-address.invariant.addresses ∙ ends.addresses_are) st
+      (c.loop-address.invariant.put plan past ends st);
   terminals = omega (arith, c.put_address.ensures.terminals, c.loop-address.invariant.terminals);
   blocks = omega (arith, c.put_address.ensures.blocks, c.loop-address.invariant.blocks);
   terminal_room = c.put_address.ensures.terminal_room ∙ c.loop-address.invariant.terminal_room;
