@@ -79,7 +79,7 @@ same-itself A = refl
 same-itself B = refl
 
 -- the burst began with the first of the ticks
-began : (k : ℕ) (t : TerminalData) (s : Standing) (c : Channel) (heard ticks : List Moment) (now : Moment) (burst : Burst) →
+pub began : (k : ℕ) (t : TerminalData) (s : Standing) (c : Channel) (heard ticks : List Moment) (now : Moment) (burst : Burst) →
     HearsBurst k t s c heard ticks → ended_now k (heard_on c (now ∷ (ticks ++ heard))) ≡ Some burst → burst.first ≡ length heard
 began k t s c heard [] now burst hears ended =
     absurd (true≢false (sym (end-closes k (sample_on now.shown c) (heard_on c heard) burst ended).ran ∙ hears.rests))

@@ -11,3 +11,5 @@ pub mod Commanding
 pub mod AnswerTicks
 pub mod Reading
 pub mod Unheeded
+pub mod Turning
+pub mod Due

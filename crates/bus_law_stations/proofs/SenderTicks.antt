@@ -35,7 +35,7 @@ sent-same : (s : Standing) (c : Channel) → with_sent s c (mark_on s.sent c) �
 sent-same s A = refl
 sent-same s B = refl
 
-owes-no-promise : (duty : Duty) → is_owed duty ≡ true → is_promise duty ≡ false
+pub owes-no-promise : (duty : Duty) → is_owed duty ≡ true → is_promise duty ≡ false
 owes-no-promise free owed = refl
 owes-no-promise (owes words acceptance) owed = refl
 owes-no-promise (promises command transmitter) owed = absurd (true≢false (sym owed))

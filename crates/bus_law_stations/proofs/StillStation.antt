@@ -71,7 +71,7 @@ module _ (k : ℕ) (station : StationData) (starts : Bool) (loads : List TimedLo
   -- ---- one tick
 
   -- no control is taken
-  takes-none : (tick : ℕ) (hearing : Hearing) → accepted_now k station.terminal loads hearing ≡ None →
+  pub takes-none : (tick : ℕ) (hearing : Hearing) → accepted_now k station.terminal loads hearing ≡ None →
       outside_takes k station starts loads outside tick outside ≡ [] → takes_in k station starts loads outside tick hearing ≡ []
   takes-none tick hearing accepted serves = rw (accepted, serves) refl
 

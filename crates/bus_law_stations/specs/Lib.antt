@@ -1,3 +1,4 @@
 pub mod Silence
 pub mod Legs
 pub mod Messages
+pub mod Turns

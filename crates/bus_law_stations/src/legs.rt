@@ -21,7 +21,8 @@ pub fn a_quiet_channel_is_not_heeded()
         heard_on c ticks ≡ quiet_ticks (length ticks) → AreUnheeded k terminal s c heard ticks }
 {}
 
-/// While a burst runs nothing changes of a terminal but that addressed slots are marked, and if it owes no answer it sends nothing.
+/// While a burst runs nothing changes of a terminal but that addressed slots are marked, and if it owes no answer it sends nothing. At every lag
+/// below a slot's forty ticks.
 pub fn a_running_burst_changes_only_marks()
     ensures stands { (k : ℕ) (terminal : TerminalData) (loads : List TimedLoad) (memory : Memory) (c : Channel) (heard ticks : List Moment) → k < 40 →
         IsReady k terminal (standing k terminal loads memory heard) c heard →
@@ -34,7 +35,8 @@ pub fn a_running_burst_changes_only_marks()
 {}
 
 /// When the end of a burst becomes known to a terminal that is ready for it: the last command in it that is for the terminal is obeyed with the
-/// slots after it, whatever struck them; a burst without one settles the promise that stands; and else nothing changes.
+/// slots after it, whatever struck them; a burst without one settles the promise that stands; and else nothing changes. At every lag
+/// below a slot's forty ticks.
 pub fn a_burst_is_obeyed_or_taken()
     ensures obeyed { (k : ℕ) (terminal : TerminalData) (loads : List TimedLoad) (memory : Memory) (c : Channel) (heard ticks : List Moment) (now : Moment)
         (burst : Burst) (order : Order) → k < 40 → let s = standing k terminal loads memory heard in

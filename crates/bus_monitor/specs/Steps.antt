@@ -1,5 +1,5 @@
 -- One tick of a channel, and what it leaves, as the code takes it.
-use Rattle.std.specs.Prelude.{ℕ, ◌+◌, ◌==◌, Bool, true, false, nat_lt, length, is_some, if◌then◌else◌, List, [], ◌∷◌, ◌++◌, Option, Some, None, option_to_list}
+use Rattle.std.specs.Prelude.{ℕ, ◌+◌, ◌==◌, Bool, true, false, nat_lt, length, is_some, if◌then◌else◌, List, [], ◌∷◌, ◌++◌, map, flat_map, Option, Some, None, option_to_list}
 use Rattle.bus_base.specs.declared.samples.Part.TheVariants.{First, Second}
 use Rattle.bus_words.specs.declared.word.Word.{Word}
 use Rattle.bus_formats.specs.Forms.{answers_of}
@@ -10,9 +10,15 @@ use Rattle.bus_formats.specs.declared.form.Outcome.TheVariants.{Clear, Sent}
 use Rattle.bus_formats.specs.declared.form.Reading.{Reading}
 use Rattle.bus_formats.specs.declared.form.Reading.TheVariants.{Good, Ends}
 use Rattle.bus_formats.specs.declared.plan.Kind.{Kind}
+use Rattle.bus_base.specs.declared.samples.Channel.{Channel}
+use Rattle.bus_monitor.specs.Listings.{closed_line}
 use Rattle.bus_monitor.specs.Messages.{Closed, Waiting, unknown, ended, waits_on, message_of}
 use Rattle.bus_monitor.specs.declared.waiting.Next.{Next}
 use Rattle.bus_monitor.specs.declared.waiting.Next.TheVariants as nexts
+
+-- the lines of messages that closed on a channel
+abbrev pub closed_lines : Channel → List Closed → List ℕ
+closed_lines c closed = flat_map (λ l. l.text) (map (closed_line c) closed)
 
 -- the message that closed, and the one that waits
 abbrev pub closed_in : Next → List Closed

@@ -1,19 +1,21 @@
 //! The messages of one channel, tick by tick.
-ghost use Rattle.std.specs.Prelude.{◌≡◌, ◌-◌, ◌<◌, ◌^◌, ℕ, List, [], ◌∷◌, length, take, false, is_some, option_to_list, Option, Some, None};
+ghost use Rattle.std.specs.Prelude.{◌≡◌, ◌+◌, ◌-◌, ◌≤◌, ◌<◌, ◌^◌, ◌++◌, true, ℕ, List, [], ◌∷◌, length, take, false, is_some, option_to_list, Option, Some, None};
 ghost use Rattle.bus_base.specs.declared.samples.Sample.{Sample};
 ghost use Rattle.bus_line.specs.Past.{heard_or_now};
 ghost use Rattle.bus_line.specs.declared.cutter.TheConstants.{LAG};
 ghost use Rattle.bus_words.specs.declared.word.Word.{Word};
 ghost use Rattle.bus_monitor.specs.Awaited.{kept_in_time, open_of};
 ghost use Rattle.bus_monitor.specs.Progress.{closed_now, closed_in_time};
-ghost use Rattle.bus_monitor.specs.Steps.{is_over, kept_with, closed_in, waits_in, burst_next};
+ghost use Rattle.bus_monitor.specs.Steps.{is_over, kept_with, closed_in, waits_in, burst_next, closed_lines};
 ghost use Rattle.bus_monitor.specs.Channels.{ChannelListerStands, is_idle_on};
 
 use crate::closed::Closed;
+use crate::message_text::add_closed;
 use crate::waiting::{Next, Waiting, take_burst};
 use arrayvec::ArrayVec;
-use bus_base::Sample;
+use bus_base::{Channel, Sample};
 use bus_line::{Cut, Cutter, LAG};
+use bus_text::Line;
 use bus_words::Word;
 
 /// Tells the messages of one channel where they close. It takes no memory.
@@ -40,21 +42,21 @@ impl ChannelLister {
         }
     }
 
-    /// Hears what the channel shows in tick `now`. The message that closes in this tick, if one does.
-    pub(crate) fn hear(&mut self, now: u64, sample: Sample) -> Option<Closed>
-        requires { (past : List Sample) × ChannelListerStands self.old past × (length past ≡ now) × (now < 2 ^ 60) }
-        ensures closed { (past : List Sample) → ChannelListerStands self.old past → length past ≡ now →
-            option_to_list result ≡ closed_now LAG (sample ∷ past) }
+    /// Hears what the channel shows in tick `now`, and adds the line of the message that closes in this tick, if one does.
+    #[inline(always)]
+    pub(crate) fn list(&mut self, channel: Channel, now: u64, sample: Sample, text: &mut Line)
+        requires past { (past : List Sample) × ChannelListerStands self.old past × (length past ≡ now) × (now < 2 ^ 60) }
+        requires room { length text.old ≤ 400 }
+        ensures text { (past : List Sample) → ChannelListerStands self.old past → length past ≡ now →
+            text.new ≡ text.old ++ closed_lines channel (closed_now LAG (sample ∷ past)) }
+        ensures grows { length text.new ≤ length text.old + 100 }
         ensures stands { (past : List Sample) → ChannelListerStands self.old past → length past ≡ now →
             ChannelListerStands self.new (sample ∷ past) }
     {
         match self.cutter.hear(sample) {
-            Cut::Nothing => self.wait(now, sample),
-            Cut::Slot { word, .. } => {
-                self.keep(word);
-                None
-            }
-            Cut::Ended { rest, .. } => self.end_burst(now, rest),
+            Cut::Nothing => self.wait(channel, now, sample, text),
+            Cut::Slot { word, .. } => self.keep(word),
+            Cut::Ended { rest, .. } => add_closed(channel, self.end_burst(now, rest), text),
         }
     }
 
@@ -83,33 +85,42 @@ impl ChannelLister {
     }
 
     // Nothing became known of a burst. One runs, or begins in this tick, or the time for an answer runs.
-    fn wait(&mut self, now: u64, sample: Sample) -> Option<Closed>
-        ensures closed { option_to_list result ≡ closed_in_time now (is_some (heard_or_now sample now self.old.running)) self.old.waiting }
+    fn wait(&mut self, channel: Channel, now: u64, sample: Sample, text: &mut Line)
+        requires { length text.old ≤ 400 }
+        ensures text { text.new ≡ text.old ++ closed_lines channel (closed_in_time now (is_some (heard_or_now sample now self.old.running)) self.old.waiting) }
+        ensures grows { length text.new ≤ length text.old + 100 }
         ensures keeps { self.new ≡ record self.old {
           running = heard_or_now sample now self.old.running;
           waiting = kept_in_time now (is_some (heard_or_now sample now self.old.running)) self.old.waiting;
         } }
     {
         if self.running.is_some() {
-            return None;
+            return;
         }
         match sample {
-            Sample::Quiet => self.wait_in_quiet(now),
-            Sample::Plus | Sample::Minus => {
-                self.running = Some(now);
-                None
-            }
+            Sample::Quiet => self.wait_in_quiet(channel, now, text),
+            Sample::Plus | Sample::Minus => self.running = Some(now),
         }
     }
 
     // No burst runs. A message that waited for its time closes.
-    fn wait_in_quiet(&mut self, now: u64) -> Option<Closed>
+    fn wait_in_quiet(&mut self, channel: Channel, now: u64, text: &mut Line)
+        requires { length text.old ≤ 400 }
+        ensures text { text.new ≡ text.old ++ closed_lines channel (closed_in_time now false self.old.waiting) }
+        ensures grows { length text.new ≤ length text.old + 100 }
+        ensures keeps { self.new ≡ record self.old { waiting = kept_in_time now false self.old.waiting } }
+    {
+        if self.is_over(now) {
+            add_closed(channel, self.unanswered(now), text);
+        }
+    }
+
+    // The message that waited for its time.
+    fn unanswered(&mut self, now: u64) -> Option<Closed>
+        requires { is_over now self.old.waiting ≡ true }
         ensures closed { option_to_list result ≡ closed_in_time now false self.old.waiting }
         ensures keeps { self.new ≡ record self.old { waiting = kept_in_time now false self.old.waiting } }
     {
-        if !self.is_over(now) {
-            return None;
-        }
         let waiting = self.waiting.take()?;
         Some(waiting.unanswered(now))
     }

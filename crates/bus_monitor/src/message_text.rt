@@ -1,8 +1,9 @@
 //! The lines of messages.
-ghost use Rattle.std.specs.Prelude.{◌≡◌, ◌≤◌, ◌+◌, ◌++◌, length, map, flat_map, option_to_list, codes};
-ghost use Rattle.bus_monitor.specs.Listings.{closed_line, came_text, message_line, open_line};
+ghost use Rattle.std.specs.Prelude.{◌≡◌, ◌≤◌, ◌+◌, ◌++◌, length, option_to_list, codes};
+ghost use Rattle.bus_monitor.specs.Listings.{came_text, message_line, open_line};
 ghost use Rattle.bus_text.specs.Texts.{number, channel_text};
 ghost use Rattle.bus_monitor.specs.Models.{came_of};
+ghost use Rattle.bus_monitor.specs.Steps.{closed_lines};
 
 use crate::closed::{Closed, Ended};
 use bus_base::Channel;
@@ -11,7 +12,7 @@ use bus_text::Line;
 /// Adds the line of a message that closed, if one did.
 pub(crate) fn add_closed(channel: Channel, closed: Option<Closed>, text: &mut Line)
     requires { length text.old ≤ 400 }
-    ensures text { text.new ≡ text.old ++ flat_map (λ l. l.text) (map (closed_line channel) (option_to_list closed)) }
+    ensures text { text.new ≡ text.old ++ closed_lines channel (option_to_list closed) }
     ensures grows { length text.new ≤ length text.old + 100 }
 {
     if let Some(closed) = closed {

@@ -10,7 +10,7 @@ ghost use Rattle.bus_monitor.specs.Listers.{MessageListerStands};
 use crate::Listing;
 use crate::channel_lister::ChannelLister;
 use crate::list::list;
-use crate::message_text::{add_closed, add_open};
+use crate::message_text::add_open;
 use crate::scribe::Lister;
 use crate::words::add_end;
 use bus_base::{Channel, Pair};
@@ -66,8 +66,8 @@ impl Lister for MessageLister {
     }
 
     fn list(&mut self, shown: Pair, text: &mut Line) {
-        add_closed(Channel::A, self.a.hear(self.ticks, shown.a), text);
-        add_closed(Channel::B, self.b.hear(self.ticks, shown.b), text);
+        self.a.list(Channel::A, self.ticks, shown.a, text);
+        self.b.list(Channel::B, self.ticks, shown.b, text);
         self.ticks += 1;
     }
 

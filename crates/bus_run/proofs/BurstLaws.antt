@@ -1,11 +1,11 @@
 -- What a lister of bursts keeps and tells of a tick is what is found in the past.
-use Rattle.std.proofs.Common.{◌≡◌, ℕ, zero, suc, ◌+◌, ◌-◌, ◌*◌, ◌<◌, ◌≤◌, ◌^◌, min, List, [], ◌∷◌, ◌++◌, length, refl, ap, sym, ◌∙◌, arith, if◌then◌else◌, add-zero, Option, Some, None}
+use Rattle.std.proofs.Common.{◌≡◌, ℕ, ◌+◌, ◌-◌, ◌*◌, ◌<◌, ◌≤◌, ◌^◌, List, [], ◌∷◌, ◌++◌, length, refl, ap, sym, ◌∙◌, arith, add-zero, Option, Some, None}
 use Rattle.std.specs.Prelude.{is_some, count_by, cond}
 use Rattle.std.proofs.lemmas.List.Sums.{count_by-le-length, sum_by-append}
 use Rattle.bus_base.specs.declared.samples.Channel.{Channel}
 use Rattle.bus_base.specs.declared.samples.Sample.{Sample}
 use Rattle.bus_words.specs.declared.word.Word.{Word}
-use Rattle.bus_line.specs.Past.{Burst, ended_now, slot_now, newest_burst, first_tick}
+use Rattle.bus_line.specs.Past.{Burst, newest_burst, first_tick}
 use Rattle.bus_line.specs.Channels.{valid_slots}
 use Rattle.bus_line.specs.Cutting.{CutterStands, Tells, Collects, Fills, cut_now, running_slots}
 use Rattle.bus_line.specs.declared.cutter.Cut.{Cut}
@@ -14,7 +14,7 @@ use Rattle.bus_line.proofs.CutNow.{cut-tells}
 use Rattle.bus_line.proofs.CollectLaws.{cut-collects, slot-fills}
 use Rattle.bus_ears.proofs.Bursts.{IsPlaced, ended-slots, ended-placed}
 use Rattle.bus_run.specs.declared.burst_lister.Ear.{Ear}
-use Rattle.bus_run.specs.BurstListers.{EndFits, EarStands, after_cut, burst_told, burst_now_on, heard_of, one_more}
+use Rattle.bus_run.specs.BurstListers.{EndFits, EarStands, after_cut, burst_told, burst_now_on, heard_of}
 
 count-some : (slots : List (Option Word)) (word : Word) → count_by is_some (slots ++ Some word ∷ []) ≡ count_by is_some slots + 1
 count-some slots word = sum_by-append (λ (x : Option Word). cond (is_some x) 1 0) slots (Some word ∷ [])

@@ -1,10 +1,9 @@
 -- One tick of the world of a plan, and what a run that goes on leaves room for.
-use Rattle.std.proofs.Common.{◌≡◌, ℕ, zero, suc, ◌+◌, ◌*◌, ◌<◌, ◌≤◌, min, Bool, true, false, nat_lt, nat_le, ◌||◌, List, [], ◌∷◌, length, map, refl, ap, sym, ◌∙◌, arith, subst}
+use Rattle.std.proofs.Common.{◌≡◌, ℕ, zero, suc, ◌*◌, ◌<◌, ◌≤◌, Bool, true, false, nat_lt, nat_le, ◌||◌, List, [], ◌∷◌, length, map, refl, ap, sym, ◌∙◌, arith}
 use Rattle.std.specs.Prelude.{flat_map}
 use Rattle.std.proofs.lemmas.Bool.Decides.{nat_tests}
 use Rattle.std.proofs.lemmas.List.{length-map}
 use Rattle.bus_base.specs.declared.samples.Pair.{Pair}
-use Rattle.bus_base.specs.declared.samples.Drive.{Drive}
 use Rattle.bus_line.specs.Channels.{valid, bursts}
 use Rattle.bus_line.specs.declared.cutter.TheConstants.{LAG}
 use Rattle.bus_base.specs.declared.samples.Tick.{Tick}
@@ -16,7 +15,7 @@ use Rattle.bus_formats.specs.declared.log.Heard.{Heard}
 use Rattle.bus_formats.specs.declared.log.HeardBurst.{HeardBurst}
 use Rattle.bus_formats.specs.declared.log.TerminalEnd.{TerminalEnd}
 use Rattle.bus_model.specs.Log.{terminals, terminal_end, blocks_of}
-use Rattle.bus_model.specs.World.{Trace, world, trace, ticks_on, drives_after, run_is_over, clashes}
+use Rattle.bus_model.specs.World.{world, trace, ticks_on, drives_after, run_is_over, clashes}
 use Rattle.bus_model.specs.WorldLog.{heard_word, heard_burst, attempts, presents, world_log}
 use Rattle.bus_run.specs.Amounts.{most_attempts, most_ticks, most_words, most_bursts}
 use Rattle.bus_run.specs.Ends.{is_outgrown, has_ended}

@@ -1,7 +1,6 @@
 -- The stations hear a tick one after the other.
-use Rattle.std.proofs.Common.{◌≡◌, ◌≢◌, ℕ, zero, suc, ◌+◌, ◌<◌, ◌≤◌, Bool, true, false, not, nat_lt, List, [], ◌∷◌, ◌++◌, length, take, map, refl, ap, sym, ◌∙◌, arith, add-one, append-nil, append_assoc, subst, if◌then◌else◌, inl, inr, ◌⊎◌, Option, Some, None}
+use Rattle.std.proofs.Common.{◌≡◌, ◌≢◌, ℕ, zero, suc, ◌+◌, ◌<◌, ◌≤◌, true, false, nat_lt, List, [], ◌∷◌, ◌++◌, length, take, refl, ap, sym, ◌∙◌, arith, add-one, append-nil, append_assoc, subst, if◌then◌else◌, inl, inr, ◌⊎◌, Some, None}
 use Rattle.std.specs.Prelude.{flat_map, filter, slice_get, set, vec_capacity}
-use Rattle.std.specs.List.{list_any}
 use Rattle.std.proofs.lemmas.Bool.{cases_eq, cases_lt}
 use Rattle.std.proofs.lemmas.Bool.Decides.{nat_tests}
 use Rattle.std.proofs.lemmas.Option.{slice_get_within, same_Some}
@@ -17,9 +16,8 @@ use Rattle.bus_model.specs.Control.{course_after}
 use Rattle.bus_model.specs.World.{is_present}
 use Rattle.bus_model.specs.WorldLog.{attempt_at, ended_by, attempts}
 use Rattle.bus_station.specs.StationStands.{StationStands}
-use Rattle.bus_station.specs.Told.{ended_in, ended_newest}
+use Rattle.bus_station.specs.Told.{ended_in}
 use Rattle.bus_station.specs.declared.station.Station.{Station}
-use Rattle.bus_run.specs.Parts.{StationsStand}
 use Rattle.bus_run.specs.Crews.{CrewStands, CrewHears, heard_at, ended_of}
 use Rattle.bus_run.specs.declared.crew.Crew.{Crew}
 

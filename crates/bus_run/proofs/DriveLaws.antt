@@ -1,5 +1,5 @@
 -- A list that is filled place by place.
-use Rattle.std.proofs.Common.{◌≡◌, ℕ, zero, suc, ◌+◌, ◌<◌, ◌≤◌, List, [], ◌∷◌, length, map, take, refl, ap, sym, ◌∙◌, arith, add-one, Option, Some, None}
+use Rattle.std.proofs.Common.{◌≡◌, ℕ, zero, suc, ◌+◌, ◌<◌, List, [], ◌∷◌, length, map, take, refl, ap, arith, add-one, Some}
 use Rattle.std.specs.Prelude.{set, slice_get}
 
 -- one place more is filled with what a function makes of the element there

@@ -1,5 +1,5 @@
 -- A run goes on while a tick answers, and has ended where one answers nothing.
-use Rattle.std.proofs.Common.{◌≡◌, ℕ, suc, ◌<◌, ◌≤◌, Bool, true, false, arith, subst, sym, inl, inr, ◌⊎◌, Option, Some, None}
+use Rattle.std.proofs.Common.{◌≡◌, ℕ, suc, ◌<◌, ◌≤◌, true, false, arith, subst, inl, inr, ◌⊎◌, Option, Some, None}
 use Rattle.std.specs.Prelude.{is_some}
 use Rattle.std.proofs.lemmas.Bool.{cases_Bool, cases_lt}
 use Rattle.bus_base.specs.declared.samples.Pair.{Pair}

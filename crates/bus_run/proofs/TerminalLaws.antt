@@ -1,5 +1,5 @@
 -- The terminals and their blocks, put one after the other.
-use Rattle.std.proofs.Common.{◌≡◌, ◌≢◌, ℕ, zero, suc, ◌+◌, ◌-◌, ◌*◌, ◌<◌, ◌≤◌, Bool, true, false, ◌==◌, List, [], ◌∷◌, ◌++◌, length, take, map, refl, ap, sym, ◌∙◌, arith, add-one, append-nil, append_assoc, subst, zero-add, if◌then◌else◌, Option, Some, None}
+use Rattle.std.proofs.Common.{◌≡◌, ◌≢◌, ℕ, zero, suc, ◌+◌, ◌-◌, ◌<◌, ◌≤◌, true, false, ◌==◌, List, [], ◌∷◌, ◌++◌, length, take, map, refl, ap, sym, ◌∙◌, arith, add-one, append-nil, append_assoc, zero-add, if◌then◌else◌, Option, Some, None}
 use Rattle.std.specs.Prelude.{flat_map, filter_map, option_to_list, slice_get, get_or}
 use Rattle.std.specs.List.{range_with_len}
 use Rattle.std.proofs.lemmas.Bool.Decides.{nat_tests}
@@ -14,7 +14,7 @@ use Rattle.bus_formats.specs.Plans.{StationData, PlanData}
 use Rattle.bus_formats.specs.declared.log.BlockEnd.{BlockEnd}
 use Rattle.bus_formats.specs.declared.log.Registers.{Registers}
 use Rattle.bus_formats.specs.declared.log.TerminalEnd.{TerminalEnd}
-use Rattle.bus_model.specs.Memory.{Memory, received_on, status_of}
+use Rattle.bus_model.specs.Memory.{received_on, status_of}
 use Rattle.bus_model.specs.Message.{Present}
 use Rattle.bus_model.specs.Run.{is_at}
 use Rattle.bus_model.specs.Log.{terminals_at, terminals, terminal_end, block_end, blocks_of}

@@ -1,14 +1,14 @@
 -- The terminals of a bus and their blocks, as the log has them.
-use Rattle.std.specs.Prelude.{◌≡◌, ℕ, zero, suc, ◌+◌, ◌*◌, ◌≤◌, List, [], ◌∷◌, ◌++◌, Option, Some, None, option_to_list, length, take, map, flat_map, vec_capacity}
+use Rattle.std.specs.Prelude.{◌≡◌, ℕ, zero, suc, ◌≤◌, List, [], ◌∷◌, ◌++◌, Option, Some, None, option_to_list, length, take, map, flat_map, vec_capacity}
 use Rattle.std.specs.List.{range_with_len}
 use Rattle.bus_base.specs.declared.samples.Pair.{Pair}
 use Rattle.bus_buffers.specs.Blocks.{Blocks, received_in}
 use Rattle.bus_line.specs.declared.cutter.TheConstants.{LAG}
-use Rattle.bus_formats.specs.Plans.{StationData, PlanData}
+use Rattle.bus_formats.specs.Plans.{PlanData}
 use Rattle.bus_formats.specs.declared.log.BlockEnd.{BlockEnd}
 use Rattle.bus_model.specs.Message.{Present}
 use Rattle.bus_model.specs.Log.{terminals_at, terminal_end, blocks_of}
-use Rattle.bus_model.specs.WorldLog.{present_after, presents}
+use Rattle.bus_model.specs.WorldLog.{presents}
 use Rattle.bus_run.specs.declared.ends.Ends.{Ends}
 
 -- nothing is put yet, and there is room for what may be

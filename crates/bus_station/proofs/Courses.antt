@@ -1,7 +1,6 @@
 -- A controller's course, one tick longer: what it tells of the tick, and whether control was given in it.
 use Rattle.std.proofs.Common.{◌≡◌, ℕ, suc, ◌<◌, Bool, true, false, not, ◌==◌, List, [], ◌∷◌, length, Option, Some, None, refl, sym, ap, ◌∙◌, subst, arith, if◌then◌else◌}
 use Rattle.std.specs.Prelude.{⊤}
-use Rattle.std.proofs.lemmas.Bool.Decides.{nat_tests}
 use Rattle.bus_base.specs.declared.samples.Channel.{Channel}
 use Rattle.bus_base.specs.declared.samples.Pair.{Pair}
 use Rattle.bus_formats.specs.Plans.{StationData}
@@ -13,10 +12,9 @@ use Rattle.bus_model.specs.Starts.{opening_after, finishes}
 use Rattle.bus_model.specs.Attempts.{Begun, Ended}
 use Rattle.bus_model.specs.Controller.{ending_now}
 use Rattle.bus_model.specs.Course.{Take, Course, course, gives, attempt_of, close_or_run, run_on, runs_next, with_takes, take_control, at_first}
-use Rattle.bus_model.specs.Control.{is_yielded, yielded_in, taking_from}
+use Rattle.bus_model.specs.Control.{is_yielded, taking_from}
 use Rattle.bus_controller.specs.ControllerStands.{NoneLater}
 use Rattle.bus_controller.proofs.Wholes.{course-more}
-use Rattle.bus_station.specs.Told.{ended_in}
 
 -- ---- a tick
 
@@ -31,6 +29,7 @@ pub record HasEnded (a : Attempt) (tick : ℕ) (d : Course) : Type 0 where
   pub opens : (n : ℕ) → taking_from n d.opening ≡ None
   pub gave : is_yielded a.outcome ≡ true → d.holds ≡ false
 
+-- a list is no longer than itself with one more
 longer : {A : Type 0} (x : A) (xs : List A) → (x ∷ xs) ≡ xs → ⊥
 longer x xs e = let long : suc (length xs) ≡ length xs = ap length e in omega (arith, long)
 
@@ -48,7 +47,7 @@ usual-opens Abandoned channel tick n = refl
 usual-opens Yielded channel tick n = refl
 
 -- a message that ended Yielded gave control
-yielded-gives : (outcome : Outcome) → is_yielded outcome ≡ true → not (gives outcome) ≡ false
+pub yielded-gives : (outcome : Outcome) → is_yielded outcome ≡ true → not (gives outcome) ≡ false
 yielded-gives Yielded h = refl
 yielded-gives Clear h = absurd (cc)
 yielded-gives Sent h = absurd (cc)
@@ -60,15 +59,18 @@ yielded-gives (NoResponse part) h = absurd (cc)
 yielded-gives (BadReply part) h = absurd (cc)
 yielded-gives Abandoned h = absurd (cc)
 
+-- where the list of attempts is as it was, none ended
 calm-of : (c : Course) (begun : Begun) (tick : ℕ) (e : Option Ended) → (close_or_run c begun tick e).ended ≡ c.ended → IsCalm c (close_or_run c begun tick e)
 calm-of c begun tick None same = record { opening = refl; holds = refl }
 calm-of c begun tick (Some e) same =
     absurd (longer (attempt_of begun e tick (finishes (next_of begun.entry.item begun.state e.outcome))) c.ended same)
 
+-- whatever runs
 calm-by : (k : ℕ) (x : Pair) (past : List Pair) (c : Course) (b : Option Begun) → (run_on k x past c b).ended ≡ c.ended → IsCalm c (run_on k x past c b)
 calm-by k x past c None same = record { opening = refl; holds = refl }
 calm-by k x past c (Some begun) same = calm-of c begun (length past) (ending_now k begun (x ∷ past)) same
 
+-- where it has one attempt more, that one ended
 ended-of : (c : Course) (begun : Begun) (tick : ℕ) (e : Option Ended) (a : Attempt) → (close_or_run c begun tick e).ended ≡ a ∷ c.ended →
     HasEnded a tick (close_or_run c begun tick e)
 ended-of c begun tick None a is = absurd (longer a c.ended (sym is))
@@ -80,6 +82,7 @@ ended-of c begun tick (Some e) a is =
       gave = λ y. yielded-gives e.outcome (ap (λ (x : Attempt). is_yielded x.outcome) here ∙ y);
     }
 
+-- whatever runs
 ended-by : (k : ℕ) (x : Pair) (past : List Pair) (c : Course) (b : Option Begun) (a : Attempt) → (run_on k x past c b).ended ≡ a ∷ c.ended →
     HasEnded a (length past) (run_on k x past c b)
 ended-by k x past c None a is = absurd (longer a c.ended (sym is))
@@ -94,10 +97,12 @@ pub record IsKept (c d : Course) : Type 0 where
   pub left : d.left ≡ c.left
   pub holds : d.holds ≡ false → c.holds ≡ false
 
+-- a take keeps these
 kept-if : (b : Bool) (first : ℕ) (c : Course) → IsKept c (if b then take_control first c else c)
 kept-if true first c = record { ended = refl; runs = refl; left = refl; holds = λ h. absurd (cc) }
 kept-if false first c = record { ended = refl; runs = refl; left = refl; holds = λ h. h }
 
+-- takes keep these
 with-takes : (takes : List Take) (n : ℕ) (c : Course) → IsKept c (with_takes takes n c)
 with-takes [] n c = record { ended = refl; runs = refl; left = refl; holds = λ h. h }
 with-takes (take ∷ takes) n c =
@@ -112,14 +117,17 @@ abbrev pub Before : ℕ → List Attempt → Type 0
 Before tick [] = ⊤
 Before tick (a ∷ attempts) = a.ended.0 < tick
 
+-- so it did before the next tick
 before-more : (tick : ℕ) (attempts : List Attempt) → Before tick attempts → Before (suc tick) attempts
 before-more tick [] h = h
 before-more tick (a ∷ attempts) h = omega (arith, h)
 
+-- an attempt that ends in this tick ended before the next
 before-of : (c : Course) (begun : Begun) (tick : ℕ) (e : Option Ended) → Before tick c.ended → Before (suc tick) (close_or_run c begun tick e).ended
 before-of c begun tick None h = before-more tick c.ended h
 before-of c begun tick (Some e) h = omega arith
 
+-- whatever runs
 before-by : (k : ℕ) (x : Pair) (past : List Pair) (c : Course) (b : Option Begun) → Before (length past) c.ended →
     Before (suc (length past)) (run_on k x past c b).ended
 before-by k x past c None h = before-more (length past) c.ended h
@@ -141,6 +149,7 @@ idle-of : (c : Course) (begun : Begun) (tick : ℕ) (e : Option Ended) → c.hol
 idle-of c begun tick None on off = absurd (cc)
 idle-of c begun tick (Some e) on off = refl
 
+-- a controller without control begins nothing
 next-by : (past : List Pair) (c : Course) (b : Option Begun) (h : Bool) → c.holds ≡ h → c.runs ≡ b → (h ≡ false → b ≡ None) → h ≡ false →
     runs_next past c ≡ None
 next-by past c None false off is none e = rw (is, off) refl
@@ -151,6 +160,7 @@ next-by past c b true off is none e = absurd (cc)
 pub serves-on : (past : List Pair) (c : Course) → (c.holds ≡ false → c.runs ≡ None) → c.holds ≡ false → runs_next past c ≡ None
 serves-on past c idle off = next-by past c c.runs c.holds refl refl idle off
 
+-- one tick more
 idle-step : (k : ℕ) (x : Pair) (past : List Pair) (c : Course) (h : Bool) (b : Option Begun) → (c.holds ≡ false → c.runs ≡ None) → c.holds ≡ h →
     runs_next past c ≡ b →
     (run_on k x past c b).holds ≡ false → (run_on k x past c b).runs ≡ None
@@ -158,6 +168,7 @@ idle-step k x past c h None idle is next off = idle off
 idle-step k x past c true (Some begun) idle is next off = idle-of c begun (length past) (ending_now k begun (x ∷ past)) is off
 idle-step k x past c false (Some begun) idle is next off = absurd (let no = serves-on past c idle is in cc)
 
+-- a controller without control has no attempt that runs
 pub idle : (k : ℕ) (station : StationData) (starts : Bool) (takes : List Take) (past : List Pair) → (course k station starts takes past).holds ≡ false →
     (course k station starts takes past).runs ≡ None
 unfolding course
@@ -179,6 +190,7 @@ serves-more k station starts takes x past later off =
 -- ---- what a tick tells
 
 module _ (k : ℕ) (station : StationData) (starts : Bool) (takes : List Take) (x : Pair) (past : List Pair) (later : NoneLater (length past) takes) where
+  -- no attempt is told where none ended
   pub is-calm : (course k station starts takes (x ∷ past)).ended ≡ (course k station starts takes past).ended →
       IsCalm (course k station starts takes past) (course k station starts takes (x ∷ past))
   is-calm same =
@@ -186,47 +198,10 @@ module _ (k : ℕ) (station : StationData) (starts : Bool) (takes : List Take) (
       let more = course-more k station starts takes x past later in
       subst (λ (d : Course). IsCalm c d) (sym more) (calm-by k x past c (runs_next past c) (ap (λ (d : Course). d.ended) (sym more) ∙ same))
 
+  -- an attempt that is told ended in this tick
   pub has-ended : (a : Attempt) → (course k station starts takes (x ∷ past)).ended ≡ a ∷ (course k station starts takes past).ended →
       HasEnded a (length past) (course k station starts takes (x ∷ past))
   has-ended a is =
       let c : Course = course k station starts takes past in
       let more = course-more k station starts takes x past later in
       subst (λ (d : Course). HasEnded a (length past) d) (sym more) (ended-by k x past c (runs_next past c) a (ap (λ (d : Course). d.ended) (sym more) ∙ is))
-
--- of attempts that ended before this tick none is told
-pub none-told : (address tick : ℕ) (attempts : List Attempt) → Before tick attempts → ended_in address tick attempts ≡ []
-none-told address tick [] h = refl
-none-told address tick (a ∷ attempts) h = (let no : (a.ended.0 == tick) ≡ false = grind (arith, nat_tests, h) in rw no refl)
-
-pub none-yielded : (tick : ℕ) (attempts : List Attempt) → Before tick attempts → yielded_in tick attempts ≡ false
-none-yielded tick [] h = refl
-none-yielded tick (a ∷ attempts) h = (let no : (a.ended.0 == tick) ≡ false = grind (arith, nat_tests, h) in rw no refl)
-
-pub one-told : (address tick : ℕ) (a : Attempt) (attempts : List Attempt) → a.ended.0 ≡ tick →
-    ended_in address tick (a ∷ attempts) ≡ record a { station = address } ∷ []
-one-told address tick a attempts h = (let here : (a.ended.0 == tick) ≡ true = grind (arith, nat_tests, h) in rw here refl)
-
-pub one-yielded : (tick : ℕ) (a : Attempt) (attempts : List Attempt) → a.ended.0 ≡ tick → yielded_in tick (a ∷ attempts) ≡ is_yielded a.outcome
-one-yielded tick a attempts h = (let here : (a.ended.0 == tick) ≡ true = grind (arith, nat_tests, h) in rw here refl)
-
--- control that was yielded in a tick isn't held after it
-yields-of : (c : Course) (begun : Begun) (tick : ℕ) (e : Option Ended) → Before tick c.ended → yielded_in tick (close_or_run c begun tick e).ended ≡ true →
-    (close_or_run c begun tick e).holds ≡ false
-yields-of c begun tick None before y = (let no = none-yielded tick c.ended before in cc)
-yields-of c begun tick (Some e) before y =
-    let a : Attempt = attempt_of begun e tick (finishes (next_of begun.entry.item begun.state e.outcome)) in
-    yielded-gives e.outcome (sym (one-yielded tick a c.ended refl) ∙ y)
-
-yields-by : (k : ℕ) (x : Pair) (past : List Pair) (c : Course) (b : Option Begun) → Before (length past) c.ended →
-    yielded_in (length past) (run_on k x past c b).ended ≡ true →
-    (run_on k x past c b).holds ≡ false
-yields-by k x past c None before y = (let no = none-yielded (length past) c.ended before in cc)
-yields-by k x past c (Some begun) before y = yields-of c begun (length past) (ending_now k begun (x ∷ past)) before y
-
-pub yields-off : (k : ℕ) (station : StationData) (starts : Bool) (takes : List Take) (x : Pair) (past : List Pair) → NoneLater (length past) takes →
-    yielded_in (length past) (course k station starts takes (x ∷ past)).ended ≡ true → (course k station starts takes (x ∷ past)).holds ≡ false
-yields-off k station starts takes x past later y =
-    let c : Course = course k station starts takes past in
-    let more = course-more k station starts takes x past later in
-    ap (λ (d : Course). d.holds) more
-    ∙ yields-by k x past c (runs_next past c) (ended-before k station starts takes past) (ap (λ (d : Course). yielded_in (length past) d.ended) (sym more) ∙ y)

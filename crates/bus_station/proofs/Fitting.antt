@@ -5,6 +5,7 @@ use Rattle.bus_formats.specs.Plans.{StationData, PlanData}
 use Rattle.bus_formats.specs.Accepted.{IsAccepted, items_in}
 use Rattle.bus_station.specs.Fits.{StationFits}
 
+-- by the ranges and limits of an accepted plan
 pub stations-fit : (plan : PlanData) → IsAccepted plan → All StationFits plan.stations
 stations-fit plan accepted i d within =
     let few = get_or-le-sum_by (λ (s : StationData). s.repeat * items_in s) plan.stations i d within in

@@ -20,7 +20,8 @@ use Rattle.bus_station.specs.Told.{ended_in, delivery_of, heard_newest, delivere
 use Rattle.bus_station.specs.StationStands.{taking_of, Stands, StationStands, AfterTick}
 use Rattle.bus_station.specs.declared.station.Station.{Station}
 use Rattle.bus_station.specs.declared.event.StationEvent.TheVariants as events
-use Rattle.bus_station.proofs.Courses.{ended-before, none-told, none-yielded, one-told, one-yielded, is-calm, has-ended}
+use Rattle.bus_station.proofs.Courses.{ended-before, is-calm, has-ended}
+use Rattle.bus_station.proofs.Yields.{none-told, none-yielded, one-told, one-yielded}
 use Rattle.bus_station.proofs.Quiet.{woken-took}
 use Rattle.bus_station.proofs.SoFar.{so_far-tick, keeps}
 use Rattle.bus_station.proofs.Ticks.{made-more, taken-more}
@@ -28,15 +29,18 @@ use Rattle.bus_station.proofs.Serving.{sofar, before}
 
 -- ---- the first command's tick
 
+-- a tick and its number
 told : (first : ℕ) (early : Bool) → (if early then Some record { 0 = first } else None) ≡ tick_of (if early then Some first else None)
 told first true = refl
 told first false = refl
 
+-- it is kept where this tick is before it
 still-if : (n first : ℕ) (b : Bool) → (b ≡ false → nat_lt n first ≡ false) → still_taking (tick_of (if b then Some first else None)) n ≡ tick_of
     (if nat_lt n first then Some first else None)
 still-if n first true h = told first (nat_lt n first)
 still-if n first false h = rw (h refl) refl
 
+-- before it is up to it from the next tick on
 next-le : (n first : ℕ) → nat_lt n first ≡ nat_le (suc n) first
 next-le n first = elim (cases_lt n first) [
   | inl less ↦ (
@@ -49,6 +53,7 @@ next-le n first = elim (cases_lt n first) [
       here ∙ sym there)
 ]
 
+-- it is kept until it was heard
 still-by : (n first : ℕ) → still_taking (tick_of (if nat_le n first then Some first else None)) n ≡ tick_of (if nat_le (suc n) first then Some first else None)
 still-by n first =
     still-if n first (nat_le n first) (λ late. grind (arith, nat_tests, late))
@@ -60,10 +65,12 @@ still n (usual need tick) = refl
 still n (superseding tick channel) = refl
 still n (taking first) = still-by n first
 
+-- control is being taken as before where nothing ended
 held-taking : (n : ℕ) (c d : Course) → c.holds ≡ true → d.holds ≡ c.holds → d.opening ≡ c.opening → still_taking (tick_of (taking_of n c)) n ≡ tick_of
     (taking_of (suc n) d)
 held-taking n c d on holds opens = rw (holds, on, opens) (still n c.opening)
 
+-- and no longer where an attempt ended
 ended-taking : (n : ℕ) (d : Course) → taking_from n d.opening ≡ None → (b : Bool) → d.holds ≡ b → None ≡ tick_of (taking_of n d)
 ended-taking n d none true on = rw (on, none) refl
 ended-taking n d none false off = rw off refl
@@ -96,6 +103,7 @@ module _ (k : ℕ) (station : StationData) (starts : Bool) (loads : List TimedLo
       (order_now k station.terminal (now ∷ h.ticks) (standing k station.terminal loads h.memory h.ticks))))
       (woken-took k station.terminal loads h.memory now h.ticks (length past) (kept.deaf on)))
 
+  -- a station that held control stands for one tick more
   held-stands : (old new : Station) (x : Pair) (past : List Pair) (y : Bool) → Stands k station starts loads outside old past
       (sofar k station starts loads outside past) →
       (before k station starts loads outside past).holds ≡ true →

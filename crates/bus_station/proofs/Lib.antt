@@ -1,4 +1,5 @@
 pub mod Courses
+pub mod Yields
 pub mod Quiet
 pub mod Offers
 pub mod SoFar

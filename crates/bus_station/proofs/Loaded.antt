@@ -42,6 +42,7 @@ terminal-loaded k station loads sub n words old new s loaded is long loads_it st
           (record { memory = memory; ticks = ticks })) rests heard)))
     ]
 
+-- a load changes the terminal alone
 pub loaded-stands : (k : ℕ) (station : StationData) (starts : Bool) (loads : List TimedLoad) (outside : List OutsideTake) (old new : Station) (x : Pair)
     (past : List Pair) (sub : ℕ) (words : List ℕ) →
     Stands k station starts loads outside old (x ∷ past) (sofar k station starts loads outside (x ∷ past)) → new.address ≡ old.address →

@@ -25,6 +25,7 @@ use Rattle.bus_station.proofs.LoadsMade.{late-load, made-load}
 
 -- ---- a terminal at rest stands for each memory that the loads make the same
 
+-- the parts of a state
 common-memory : (k : ℕ) (t : TerminalData) (loads : List TimedLoad) (common : Common) (past : List Moment) (m other : Memory) →
     with_loads t.address (length past) loads other ≡ with_loads t.address (length past) loads m → CommonStands k t loads common past (at_rest m) →
     CommonStands k t loads common past (at_rest other)
@@ -40,6 +41,7 @@ common-memory k t loads common past m other same st = record {
   newest = λ left. absurd (cc);
 }
 
+-- a state
 state-memory : (k : ℕ) (t : TerminalData) (loads : List TimedLoad) (state : TerminalState) (past : List Moment) (m other : Memory) →
     with_loads t.address (length past) loads other ≡ with_loads t.address (length past) loads m → StateStands k t loads state past (at_rest m) →
     StateStands k t loads state past (at_rest other)
@@ -49,6 +51,7 @@ state-memory k t loads (states.Promised state) past m other same st = absurd (le
 state-memory k t loads (states.Owing state) past m other same st = absurd (let no = st.sends.duty in cc)
 state-memory k t loads (states.Answering state) past m other same st = absurd (let no = st.sends.duty in cc)
 
+-- a terminal
 pub other-memory : (k : ℕ) (t : TerminalData) (loads : List TimedLoad) (terminal : Terminal) (n : ℕ) (m other : Memory) →
     with_loads t.address n loads other ≡ with_loads t.address n loads m → TerminalStands k t loads terminal (record { memory = m; ticks = quiet_moments n }) →
     TerminalStands k t loads terminal (record { memory = other; ticks = quiet_moments n })
@@ -68,6 +71,7 @@ Loads k t loads sub words old new = (memory : Memory) (now : Moment) (past : Lis
     TerminalStands k t (loads ++ record { tick = length past; address = t.address; sub = sub; words = words } ∷ []) new
     (record { memory = memory; ticks = now ∷ past })
 
+-- whatever it heard, if it heard a tick
 pub loaded-ticks : (k : ℕ) (t : TerminalData) (loads : List TimedLoad) (sub : ℕ) (words : List ℕ) (old new : Terminal) (n : ℕ) (memory : Memory)
     (ticks : List Moment) →
     Loads k t loads sub words old new → length ticks ≡ suc n → TerminalStands k t loads old (record { memory = memory; ticks = ticks }) →
@@ -91,19 +95,23 @@ pub record IsLoaded (n sub : ℕ) (words : List ℕ) (s loaded : StationSoFar) :
             (suc n);
       }))
 
+-- a station that held control took nothing
 loaded-if : (n sub : ℕ) (words : List ℕ) (b : Bool) (h v loaded : StationSoFar) → IsLoaded n sub words v loaded →
     IsLoaded n sub words (if b then h else v) (if b then h else loaded)
 loaded-if n sub words true h v loaded is = record { takes = refl; hearing = inl refl }
 loaded-if n sub words false h v loaded is = is
 
+-- one load more
 abbrev pub with-load : List TimedLoad → TimedLoad → List TimedLoad
 with-load loads load = loads ++ load ∷ []
 
 module _ (k : ℕ) (station : StationData) (starts : Bool) (loads : List TimedLoad) (outside : List OutsideTake) (load : TimedLoad) where
+  -- it changes no acceptance in its tick
   accepted-load : (m : Moment) (h : Hearing) → length h.ticks ≤ suc load.tick →
       accepted_now k station.terminal (with-load loads load) (hear_more h m) ≡ accepted_now k station.terminal loads (hear_more h m)
   accepted-load m h early = ap (accepted_on k station.terminal loads m h.ticks) (standing-load k station.terminal loads load h.memory h.ticks early)
 
+  -- nor a take
   takes-load : (tick : ℕ) (m : Moment) (h : Hearing) → length h.ticks ≤ suc load.tick →
       takes_in k station starts (with-load loads load) outside tick (hear_more h m) ≡ takes_in k station starts loads outside tick (hear_more h m)
   takes-load tick m h early =
@@ -124,12 +132,14 @@ module _ (k : ℕ) (station : StationData) (starts : Bool) (loads : List TimedLo
       (standing-load k station.terminal loads load h.memory h.ticks (omega (arith, now)))
       ∙ made-load station.terminal.address (length h.ticks) loads load (standing k station.terminal loads h.memory h.ticks).memory own (omega (arith, now))
 
+  -- nor what is taken over before it
   taken-late : (past : List Pair) (s : StationSoFar) (h : Hearing) (takes : List Take) → length h.ticks ≤ load.tick →
       taken_over k station starts (with-load loads load) outside past s h takes ≡ taken_over k station starts loads outside past s h takes
   taken-late past s h [] early = refl
   taken-late past s h (take ∷ takes) early =
       ap (λ (m : Memory). record { takes = s.takes ++ take ∷ takes; hearing = record { memory = m; ticks = unheard_ticks past } }) (memory-late h early)
 
+  -- one tick before it
   after-load : (x : Pair) (past : List Pair) (s : StationSoFar) → length s.hearing.ticks ≡ length past → length past < load.tick →
       so_far_after k station starts (with-load loads load) outside x past s ≡ so_far_after k station starts loads outside x past s
   after-load x past s long early =
@@ -150,6 +160,7 @@ module _ (k : ℕ) (station : StationData) (starts : Bool) (loads : List TimedLo
       ap (so_far_after k station starts (with-load loads load) outside x past) (before-load past (omega (arith, early)))
       ∙ after-load x past (sofar k station starts loads outside past) (keeps k station starts loads outside past).long (omega (arith, early))
 
+  -- what is taken over in its tick has it
   taken-now : (past : List Pair) (s : StationSoFar) (h : Hearing) (takes : List Take) → load.address ≡ station.terminal.address →
       length h.ticks ≡ suc load.tick → length past ≡ suc load.tick →
       IsLoaded load.tick load.sub load.words (taken_over k station starts loads outside past s h takes)

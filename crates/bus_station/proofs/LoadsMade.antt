@@ -5,6 +5,7 @@ use Rattle.std.proofs.lemmas.List.{set-set, set_comm}
 use Rattle.bus_model.specs.Memory.{Memory, TimedLoad, with_loads, load_due, load_block}
 use Rattle.bus_terminal.specs.Stands.{AreMade}
 
+-- nothing and something is nothing
 and-false : (b : Bool) → (b && false) ≡ false
 and-false true = refl
 and-false false = refl
@@ -13,6 +14,7 @@ and-false false = refl
 not-due : (address now : ℕ) (load : TimedLoad) → now ≤ load.tick → load_due address now load ≡ false
 not-due address now load h = let late : nat_lt load.tick now ≡ false = le-ltb load.tick now h in rw late (and-false (load.address == address))
 
+-- so it leaves the memory as it is
 pub late-load : (address now : ℕ) (loads : List TimedLoad) (load : TimedLoad) (m : Memory) → now ≤ load.tick →
     with_loads address now (loads ++ load ∷ []) m ≡ with_loads address now loads m
 late-load address now [] load m h = rw (not-due address now load h) refl
@@ -25,11 +27,13 @@ is-due address now load e h =
     let early : nat_lt load.tick now ≡ true = lt-ltb load.tick now h in
     rw (same, early) refl
 
+-- there it is the last
 pub made-load : (address now : ℕ) (loads : List TimedLoad) (load : TimedLoad) (m : Memory) → load.address ≡ address → load.tick < now →
     with_loads address now (loads ++ load ∷ []) m ≡ load_block (with_loads address now loads m) load.sub load.words
 made-load address now [] load m e h = rw (is-due address now load e h) refl
 made-load address now (first ∷ loads) load m e h = made-load address now loads load _ e h
 
+-- loads that were made, with one more
 pub made-append : (address now : ℕ) (loads : List TimedLoad) (load : TimedLoad) → AreMade address now loads → load.tick < now →
     AreMade address now (loads ++ load ∷ [])
 made-append address now [] load made h = (λ e. h, tt)
@@ -37,9 +41,11 @@ made-append address now (first ∷ loads) load made h = (made.0, made-append add
 
 -- ---- a block that is put up twice
 
+-- of two loads of one block the later counts
 twice : (m : Memory) (i j : ℕ) (xs ys : List ℕ) → i ≡ j → load_block (load_block m i xs) j ys ≡ load_block m j ys
 twice m i j xs ys e = rw e (ap (λ (t : List (List ℕ)). record m { transmit = t }) (set-set m.transmit j xs ys))
 
+-- loads of two blocks may change places
 apart : (m : Memory) (i j : ℕ) (xs ys : List ℕ) → i ≢ j → load_block (load_block m i xs) j ys ≡ load_block (load_block m j ys) i xs
 apart m i j xs ys e = ap (λ (t : List (List ℕ)). record m { transmit = t }) (set_comm m.transmit i j xs ys e)
 
@@ -57,6 +63,7 @@ swallowed-by address now true load loads sub words m rest = elim (cases_Bool (su
       ∙ rest (load_block m load.sub load.words))
 ]
 
+-- by all other loads
 pub swallowed : (address now : ℕ) (loads : List TimedLoad) (sub : ℕ) (words : List ℕ) (m : Memory) →
     load_block (with_loads address now loads (load_block m sub words)) sub words ≡ load_block (with_loads address now loads m) sub words
 swallowed address now [] sub words m = twice m sub sub words words refl

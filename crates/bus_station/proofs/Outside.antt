@@ -19,21 +19,25 @@ use Rattle.bus_station.proofs.Serving.{sofar, before, so_far-served, took, took-
 
 -- ---- takes of a tick give control in it
 
+-- control stays
 holds-kept : (takes : List Take) (n : ℕ) (c : Course) → c.holds ≡ true → (with_takes takes n c).holds ≡ true
 holds-kept [] n c on = on
 holds-kept (take ∷ takes) n c on =
     holds-kept takes n (if take.heard == n then take_control take.first c else c)
     (by-test (λ (d : Course). d.holds ≡ true) (take.heard == n) (take_control take.first c) c (λ _. refl) (λ _. on))
 
+-- takes one after the other
 takes-append : (takes more : List Take) (n : ℕ) (c : Course) → with_takes (takes ++ more) n c ≡ with_takes more n (with_takes takes n c)
 takes-append [] more n c = refl
 takes-append (take ∷ takes) more n c = takes-append takes more n (if take.heard == n then take_control take.first c else c)
 
+-- the first of this tick gives control
 taken-holds : (take : Take) (takes : List Take) (n : ℕ) (c : Course) → take.heard ≡ n → (with_takes (take ∷ takes) n c).holds ≡ true
 taken-holds take takes n c now =
     let here : (take.heard == n) ≡ true = grind (arith, nat_tests, now) in
     ap (λ (b : Bool). (with_takes takes n (if b then take_control take.first c else c)).holds) here ∙ holds-kept takes n (take_control take.first c) refl
 
+-- so a course with it holds control
 now-holds : (k : ℕ) (station : StationData) (starts : Bool) (takes : List Take) (take : Take) (more : List Take) (x : Pair) (past : List Pair) →
     take.heard ≡ suc (length past) →
     (course k station starts (takes ++ take ∷ more) (x ∷ past)).holds ≡ true
@@ -44,10 +48,12 @@ now-holds k station starts takes take more x past now =
     ap (λ (e : Course). e.holds) (takes-append takes (take ∷ more) (suc (length past)) d)
     ∙ taken-holds take more (suc (length past)) (with_takes takes (suc (length past)) d) now
 
+-- takes of this tick alone
 abbrev AreNow : ℕ → List Take → Type 0
 AreNow now [] = ⊤
 AreNow now (take ∷ takes) = (take.heard ≡ now) × AreNow now takes
 
+-- two lists of them
 now-append : (now : ℕ) (takes more : List Take) → AreNow now takes → AreNow now more → AreNow now (takes ++ more)
 now-append now [] more f g = g
 now-append now (take ∷ takes) more f g = (f.0, now-append now takes more f.1 g)
@@ -57,12 +63,14 @@ abbrev pub with-take : (station : StationData) (outside : List OutsideTake) (tic
 with-take station outside tick first = outside ++ record { tick = tick; address = station.terminal.address; first = first } ∷ []
 
 module _ (k : ℕ) (station : StationData) (starts : Bool) (loads : List TimedLoad) where
+  -- outside takes of a tick
   outside-now : (outside : List OutsideTake) (tick : ℕ) (all : List OutsideTake) → AreNow (suc tick) (outside_takes k station starts loads outside tick all)
   outside-now outside tick [] = tt
   outside-now outside tick (take ∷ all) =
       by-test (AreNow (suc tick)) (is_outside k station starts loads outside tick take) _ _
       (λ _. (refl, outside-now outside tick all)) (λ _. outside-now outside tick all)
 
+  -- all takes of a tick
   takes-now : (outside : List OutsideTake) (tick : ℕ) (hearing : Hearing) → AreNow (suc tick) (takes_in k station starts loads outside tick hearing)
   takes-now outside tick hearing =
       now-append (suc tick) (accepted_take tick (accepted_now k station.terminal loads hearing)) (outside_takes k station starts loads outside tick outside)
@@ -85,6 +93,7 @@ module _ (k : ℕ) (station : StationData) (starts : Bool) (loads : List TimedLo
       ∙ now-holds k station starts (sofar k station starts loads outside past).takes take takes x past now.0 in
       cc
 
+  -- its list of takes is empty
   none-taken : (outside : List OutsideTake) (x : Pair) (past : List Pair) → (before k station starts loads outside past).holds ≡ false →
       (before k station starts loads outside (x ∷ past)).holds ≡ false →
       takes_in k station starts loads outside (length past) (hear_more (sofar k station starts loads outside past).hearing
@@ -125,6 +134,7 @@ module _ (k : ℕ) (station : StationData) (starts : Bool) (loads : List TimedLo
         inside true take takes more = refl
         inside false take takes more = refl
 
+  -- one tick before its own
   after-outside : (outside : List OutsideTake) (tick first : ℕ) (x : Pair) (past : List Pair) (s : StationSoFar) → length past < tick →
       so_far_after k station starts loads (with-take station outside tick first) x past s ≡ so_far_after k station starts loads outside x past s
   after-outside outside tick first x past s later =
@@ -146,11 +156,13 @@ module _ (k : ℕ) (station : StationData) (starts : Bool) (loads : List TimedLo
 
   -- ---- a station that took control by itself
 
+  -- takes that were made, with one more
   taken-append : (tick now : ℕ) (first : ℕ) (outside : List OutsideTake) → tick < now → AreTaken station.terminal.address now outside →
       AreTaken station.terminal.address now (with-take station outside tick first)
   taken-append tick now first [] before taken = (λ _. before, tt)
   taken-append tick now first (take ∷ outside) before taken = (taken.0, taken-append tick now first outside before taken.1)
 
+  -- a station that served, where it is known as it was
   served-by : (outside : List OutsideTake) (x : Pair) (past : List Pair) (takes : List Take) (s : StationSoFar) →
       sofar k station starts loads outside past ≡ s →
       (course k station starts s.takes past).holds ≡ false →
@@ -164,6 +176,7 @@ module _ (k : ℕ) (station : StationData) (starts : Bool) (loads : List TimedLo
       ≡ taken_over k station starts loads outside (x ∷ past) t (hear_more t.hearing (moment_of x (course k station starts t.takes past))) takes) is
       (so_far-served k station starts loads outside x past takes)
 
+  -- it stands for the takes with this one
   pub took-itself : (old new : Station) (outside : List OutsideTake) (x : Pair) (past : List Pair) (first : ℕ) →
       Stands k station starts loads outside old (x ∷ past) (sofar k station starts loads outside (x ∷ past)) →
       (before k station starts loads outside past).holds ≡ false → (before k station starts loads outside (x ∷ past)).holds ≡ false →

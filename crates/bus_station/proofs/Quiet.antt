@@ -45,6 +45,7 @@ woken-free k t loads memory now n =
     ∙ ap (λ (o : Option _). (marked_by k t now (quiet_moments n) (at_rest memory) (ordered k t loads (length (quiet_moments n)) now.may
     (at_rest memory) o)).duty) (woken-order k t memory now n)
 
+-- nor does one that heard quiet ticks
 pub resting-free : (k : ℕ) (t : TerminalData) (loads : List TimedLoad) (memory : Memory) (n : ℕ) → (standing k t loads memory (quiet_moments n)).duty ≡ free
 resting-free k t loads memory n = ap (λ (s : Standing). s.duty) (quiet-stands k t loads memory n)
 

@@ -24,7 +24,8 @@ use Rattle.bus_station.specs.Hears.{HeardBy}
 use Rattle.bus_station.specs.StationStands.{AreTaken, taking_of, Stands, StationStands, AfterTick}
 use Rattle.bus_station.specs.declared.station.Station.{Station}
 use Rattle.bus_station.specs.declared.event.StationEvent.{StationEvent}
-use Rattle.bus_station.proofs.Courses.{serves-more, ended-before, none-told}
+use Rattle.bus_station.proofs.Courses.{serves-more, ended-before}
+use Rattle.bus_station.proofs.Yields.{none-told}
 use Rattle.bus_station.proofs.Quiet.{unheard-quiet}
 use Rattle.bus_station.proofs.Offers.{accepted-owed, some-left}
 use Rattle.bus_station.proofs.SoFar.{so_far-tick, keeps}
@@ -39,20 +40,24 @@ on-taking : (n first : ℕ) (c : Course) → n ≤ first → taking_of n (take_c
 on-taking n first c early = let here : nat_le n first ≡ true = le-leb n first early in rw here refl
 
 module _ (k : ℕ) (station : StationData) (starts : Bool) (loads : List TimedLoad) (outside : List OutsideTake) where
+  -- a station so far
   abbrev pub sofar : List Pair → StationSoFar
   sofar past = so_far k station starts loads outside past
 
+  -- the course of its controller
   abbrev pub before : List Pair → Course
   before past = course k station starts (sofar past).takes past
 
   -- ---- the takes of a tick
 
+  -- no outside take is of this tick
   none-outside : (tick : ℕ) (all : List OutsideTake) → AreTaken station.terminal.address tick all → outside_takes k station starts loads outside tick all ≡ []
   none-outside tick [] taken = refl
   none-outside tick (take ∷ all) taken =
       let no : is_outside k station starts loads outside tick take ≡ false = not-outside take.address station.terminal.address take.tick tick taken.0 in
       rw no (none-outside tick all taken.1)
 
+  -- so the takes are those by acceptance
   pub takes-accepted : (tick : ℕ) (hearing : Hearing) (end : Option ℕ) → AreTaken station.terminal.address tick outside →
       accepted_now k station.terminal loads hearing ≡ end →
       takes_in k station starts loads outside tick hearing ≡ accepted_take tick end ++ []
@@ -87,6 +92,7 @@ module _ (k : ℕ) (station : StationData) (starts : Bool) (loads : List TimedLo
 
   -- ---- no control is taken
 
+  -- it stands for one tick more, and tells the block
   pub served : (old new : Station) (event : TerminalEvent) (told : StationEvent) (x : Pair) (past : List Pair) →
       Stands k station starts loads outside old past (sofar past) → (before past).holds ≡ false →
       accepted_now k station.terminal loads (hear_more (sofar past).hearing (moment_of x (before past))) ≡ None →
@@ -127,6 +133,7 @@ module _ (k : ℕ) (station : StationData) (starts : Bool) (loads : List TimedLo
     hearing = record { memory = memory_after k station.terminal loads hearing; ticks = unheard_ticks (x ∷ past) };
   }
 
+  -- it stands for what was taken over
   pub took-stands : (new : Station) (x : Pair) (past : List Pair) (s : StationSoFar) (hearing : Hearing) (first : ℕ) → new.address ≡ station.terminal.address →
       new.taking ≡ Some record { 0 = first } → suc (length past) ≤ first →
       ControllerStands k station starts (s.takes ++ record { heard = suc (length past); first = first } ∷ []) new.controller (x ∷ past) →
@@ -149,6 +156,7 @@ module _ (k : ℕ) (station : StationData) (starts : Bool) (loads : List TimedLo
     taken = taken;
   }
 
+  -- it stands for one tick more, with control
   pub took-over : (old new : Station) (event : TerminalEvent) (told : StationEvent) (x : Pair) (past : List Pair) (terminal : Terminal) (end first : ℕ) →
       Stands k station starts loads outside old past (sofar past) → (before past).holds ≡ false →
       accepted_now k station.terminal loads (hear_more (sofar past).hearing (moment_of x (before past))) ≡ Some end → first ≡ end + taking_over →

@@ -26,11 +26,13 @@ pub same-length : (k : ℕ) (value : Controller) (a b : StationData) (on off : B
 unfolding ControllerStands ReceiverStands
 same-length k value a b on off takes others past other st st_other = sym st.receiver.next ∙ st_other.receiver.next
 
+-- it is taking control
 pub taking-role : (first : Tick) (o : Option ℕ) (holds : Bool) → Some first ≡ tick_of o → holds ≡ true → Taking first ≡ role_by holds o
 taking-role first None holds is on = cc
 taking-role first (Some tick) true is on = (let same : first ≡ record { 0 = tick } = cc in ap Taking same)
 taking-role first (Some tick) false is on = cc
 
+-- it is controlling
 pub controlling-role : (o : Option ℕ) (holds : Bool) → None ≡ tick_of o → holds ≡ true → Controlling ≡ role_by holds o
 controlling-role None true is on = refl
 controlling-role None false is on = cc

@@ -15,7 +15,8 @@ use Rattle.bus_terminal.proofs.Waking.{quiet-length}
 use Rattle.bus_terminal.proofs.Standing.{by-test}
 use Rattle.bus_controller.specs.ControllerStands.{NoneLater}
 use Rattle.bus_controller.proofs.Wholes.{later-more}
-use Rattle.bus_station.proofs.Courses.{serves-more, yields-off}
+use Rattle.bus_station.proofs.Courses.{serves-more}
+use Rattle.bus_station.proofs.Yields.{yields-off}
 use Rattle.bus_station.proofs.Quiet.{unheard-quiet, woken-free, resting-free}
 use Rattle.bus_station.proofs.Offers.{accepting, tick-may}
 
@@ -25,6 +26,7 @@ later-append now [] more f g = g
 later-append now (take ∷ takes) more f g = (f.0, later-append now takes more f.1 g)
 
 module _ (k : ℕ) (station : StationData) (starts : Bool) (loads : List TimedLoad) (outside : List OutsideTake) where
+  -- one tick more
   pub so_far-tick : (x : Pair) (past : List Pair) → so_far k station starts loads outside (x ∷ past) ≡ so_far_after k station starts loads outside x past
       (so_far k station starts loads outside past)
   unfolding so_far
@@ -37,10 +39,12 @@ module _ (k : ℕ) (station : StationData) (starts : Bool) (loads : List TimedLo
       by-test (NoneLater (suc tick)) (is_outside k station starts loads outside tick take) _ _
       (λ _. (omega arith, outside-now tick all)) (λ _. outside-now tick all)
 
+  -- so is one by acceptance
   accepted-now : (tick : ℕ) (end : Option ℕ) → NoneLater (suc tick) (accepted_take tick end)
   accepted-now tick None = tt
   accepted-now tick (Some end) = (omega arith, tt)
 
+  -- so are all takes of a tick
   pub takes-now : (tick : ℕ) (hearing : Hearing) → NoneLater (suc tick) (takes_in k station starts loads outside tick hearing)
   takes-now tick hearing =
       later-append (suc tick) (accepted_take tick (accepted_now k station.terminal loads hearing)) (outside_takes k station starts loads outside tick outside)
@@ -65,6 +69,7 @@ module _ (k : ℕ) (station : StationData) (starts : Bool) (loads : List TimedLo
       ∙ ap accepting (resting-free k station.terminal loads memory n) in
       cc
 
+  -- or one tick after it
   woken-silent : (now : Moment) (memory : Memory) (ticks : List Moment) (n : ℕ) → ticks ≡ quiet_moments n →
       accepting (standing k station.terminal loads memory (now ∷ ticks)).duty ≡ true → ⊥
   woken-silent now memory ticks n rests acc =
@@ -79,6 +84,7 @@ module _ (k : ℕ) (station : StationData) (starts : Bool) (loads : List TimedLo
   held-ticks x past s c true gave on same = (let off = gave refl in cc)
   held-ticks x past s c false gave on same = ap (λ (ticks : List Moment). unheard ∷ ticks) same
 
+  -- after a tick with control
   keeps-hold : (x : Pair) (past : List Pair) (s : StationSoFar) → (course k station starts s.takes past).holds ≡ true → Keeps s past →
       Keeps (hold k station starts loads outside x past s (course k station starts s.takes (x ∷ past))) (x ∷ past)
   keeps-hold x past s on kept =
@@ -111,6 +117,7 @@ module _ (k : ℕ) (station : StationData) (starts : Bool) (loads : List TimedLo
             ];
       }
 
+  -- after a tick in which control may be taken
   keeps-taken : (x : Pair) (past : List Pair) (s : StationSoFar) (takes : List Take) → (course k station starts s.takes past).holds ≡ false → Keeps s past →
       NoneLater (suc (length past)) takes →
       Keeps (taken_over k station starts loads outside (x ∷ past) s (hear_more s.hearing (moment_of x (course k station starts s.takes past))) takes) (x ∷ past)
@@ -124,6 +131,7 @@ module _ (k : ℕ) (station : StationData) (starts : Bool) (loads : List TimedLo
         offers = λ _ acc. absurd (resting-silent _ (unheard_ticks (x ∷ past)) (suc (length past)) rests acc);
       }
 
+  -- after a tick
   keeps-more : (x : Pair) (past : List Pair) (s : StationSoFar) → Keeps s past → Keeps (so_far_after k station starts loads outside x past s) (x ∷ past)
   keeps-more x past s kept =
       by-test (λ (after : StationSoFar). Keeps after (x ∷ past)) (course k station starts s.takes past).holds
@@ -134,6 +142,7 @@ module _ (k : ℕ) (station : StationData) (starts : Bool) (loads : List TimedLo
       (takes_in k station starts loads outside (length past) (hear_more s.hearing (moment_of x (course k station starts s.takes past)))) off kept
       (takes-now (length past) (hear_more s.hearing (moment_of x (course k station starts s.takes past)))))
 
+  -- after all ticks
   pub keeps : (past : List Pair) → Keeps (so_far k station starts loads outside past) past
   unfolding so_far standing
   keeps [] = record { later = tt; long = refl; deaf = λ on. refl; offers = λ off acc. cc }

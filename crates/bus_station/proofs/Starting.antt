@@ -16,6 +16,7 @@ unfolding course
 no-taking k plan true = refl
 no-taking k plan false = refl
 
+-- it stands for no tick
 pub begins : (k : ℕ) (plan : StationData) (starts : Bool) (new : Station) (terminal : TerminalData) → terminal ≡ plan.terminal →
     new.address ≡ terminal.address →
     ControllerStands k plan starts [] new.controller [] → TerminalStands k terminal [] new.terminal

@@ -25,10 +25,12 @@ use Rattle.bus_station.specs.StationStands.{AreTaken}
 
 -- ---- what was made so far
 
+-- loads
 pub made-more : (address n : ℕ) (loads : List TimedLoad) → AreMade address n loads → AreMade address (suc n) loads
 made-more address n [] made = made
 made-more address n (load ∷ loads) made = (λ e. (let before = made.0 e in omega (arith, before)), made-more address n loads made.1)
 
+-- takes
 pub taken-more : (address n : ℕ) (outside : List OutsideTake) → AreTaken address n outside → AreTaken address (suc n) outside
 taken-more address n [] taken = taken
 taken-more address n (take ∷ takes) taken = (λ e. (let before = taken.0 e in omega (arith, before)), taken-more address n takes taken.1)
@@ -48,6 +50,7 @@ not-outside address own tick n before = elim (cases_Bool (address == own)) [
 
 -- ---- the events of a terminal
 
+-- the block that a terminal tells
 abbrev pub delivery_heard : TerminalEvent → Option Delivery
 delivery_heard (heards.Took delivery) = Some delivery
 delivery_heard _ = None
@@ -65,12 +68,14 @@ none-accepted heards.Nothing end other h = h
 none-accepted (heards.Took delivery) end other h = h
 none-accepted heards.Accepted end other h = absurd (other refl)
 
+-- an end that is known
 pub some-end : (end : Option ℕ) → is_some end ≡ true → (n : ℕ) × (end ≡ Some n)
 some-end None h = absurd (cc)
 some-end (Some n) h = (n, refl)
 
 -- ---- the end of an answer that accepts
 
+-- the end of the burst that is the answer
 status-end : (due : ℕ) (o : Option Burst) (end : ℕ) → heard_status due o ≡ Some end → (burst : Burst) × (o ≡ Some burst) × (end_of burst ≡ end)
 status-end due None end h = absurd (cc)
 status-end due (Some burst) end h =
@@ -78,6 +83,7 @@ status-end due (Some burst) end h =
     (Some (end_of burst)) None
     (λ _ is. (burst, refl, (let same : end_of burst ≡ end = cc in same))) (λ _ is. absurd (cc)) h
 
+-- it lies k ticks before the newest
 accepted-end-by : (k : ℕ) (t : TerminalData) (loads : List TimedLoad) (past : List Sample) (x : Sample) (s : Standing) (d : Duty) (end : ℕ) →
     accepted_by k t loads past x s d ≡ Some end → end + k ≡ length past
 accepted-end-by k t loads past x s free end h = absurd (cc)

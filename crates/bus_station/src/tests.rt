@@ -1,7 +1,7 @@
 // Two stations, 3 and 5, joined by channel A: ticks, roles and what they tell, when control passes (dynamic bus control, MIL-STD-1553B
 // 4.3.3.5.1.7.1). The ticks are worked out from the rules: the offer is sent from tick 8, answered from 52, and the accepter's first command
 // starts 40 ticks after the answer's end, in tick 132.
-ghost use Rattle.std.specs.Prelude.{◌≡◌, ◌≤◌, IfOk, IfSome, IsBetween};
+ghost use Rattle.std.specs.Prelude.{◌≤◌, IfOk, [], None};
 ghost use Rattle.bus_formats.specs.Accepted.{HasItemRanges};
 ghost use Rattle.bus_controller.specs.Queue.{MayRun};
 ghost use Rattle.bus_station.specs.Heard.{HasHeard};
@@ -89,14 +89,8 @@ fn accepter(alloc: Global) -> Result<Station, AllocError>
     Ok(station(alloc, 5, frames, false))
 }
 
-// An attempt that ended: its station and start, how and when it ended.
-#[derive(Clone, Copy, Debug, PartialEq, Eq)]
-struct Row {
-    station: u8,
-    start: u64,
-    outcome: Outcome,
-    ended: u64,
-}
+// An attempt that ended: its station, the first tick of its command, how it ended and in which tick.
+type Row = (u8, u64, Outcome, u64);
 
 // What both stations told: the newest attempt of each, and the tick of the newest block.
 #[derive(Clone, Copy)]
@@ -142,12 +136,14 @@ fn shown(first: Drive, second: Drive, flips: bool) -> Pair {
 
 fn newest(told: Option<Row>, event: &StationEvent) -> Option<Row> {
     match event {
-        StationEvent::Ended(attempt) => Some(Row {
-            station: attempt.station,
-            start: attempt.start.0,
-            outcome: attempt.outcome,
-            ended: attempt.ended.0,
-        }),
+        StationEvent::Ended(attempt) => {
+            Some((
+                attempt.station,
+                attempt.start.0,
+                attempt.outcome,
+                attempt.ended.0,
+            ))
+        }
         _ => told,
     }
 }
@@ -194,13 +190,7 @@ fn control_passes(rt: HostRuntime) -> Result<(), Fail> {
     assert_eq!(rt; second.role(), Role::Serving);
     // the answer's end is 92, and known three ticks later
     run(&mut first, &mut second, &mut told, None, 95, 96);
-    let passed = Row {
-        station: 3,
-        start: 8,
-        outcome: Outcome::Passed,
-        ended: 95,
-    };
-    assert_eq!(rt; told.first, Some(passed));
+    assert_eq!(rt; told.first, Some((3, 8, Outcome::Passed, 95)));
     assert_eq!(rt; first.role(), Role::Serving);
     assert_eq!(rt; second.role(), Role::Taking(Tick(132)));
     run(&mut first, &mut second, &mut told, None, 96, 132);
@@ -211,13 +201,7 @@ fn control_passes(rt: HostRuntime) -> Result<(), Fail> {
     assert!(rt; !second.is_idle());
     // command and word end at 212, the answer at 256
     run(&mut first, &mut second, &mut told, None, 133, 336);
-    let clear = Row {
-        station: 5,
-        start: 132,
-        outcome: Outcome::Clear,
-        ended: 259,
-    };
-    assert_eq!(rt; told.second, Some(clear));
+    assert_eq!(rt; told.second, Some((5, 132, Outcome::Clear, 259)));
     assert_eq!(rt; told.took, Some(215));
     assert_eq!(rt; first.terminal().buffers().front(1), [7].as_slice());
     assert!(rt; first.is_idle());
@@ -236,13 +220,7 @@ fn control_is_yielded(rt: HostRuntime) -> Result<(), Fail> {
     assert_eq!(rt; first.role(), Role::Controlling);
     assert_eq!(rt; second.role(), Role::Taking(Tick(132)));
     run(&mut first, &mut second, &mut told, Some(58), 132, 133);
-    let yielded = Row {
-        station: 3,
-        start: 8,
-        outcome: Outcome::Yielded,
-        ended: 132,
-    };
-    assert_eq!(rt; told.first, Some(yielded));
+    assert_eq!(rt; told.first, Some((3, 8, Outcome::Yielded, 132)));
     assert_eq!(rt; first.role(), Role::Serving);
     run(&mut first, &mut second, &mut told, Some(58), 133, 336);
     assert_eq!(rt; told.took, Some(215));
@@ -255,18 +233,18 @@ const SILENCE: Pair = Pair {
     b: Sample::Quiet,
 };
 
-// A station that serves hears a quiet tick, puts up a block for sending, and takes control with its first command in tick 20.
+// A station that serves hears a quiet tick, takes control with its first command in tick 20, and puts up a block for sending.
 fn takes_over(station: &mut Station) -> bool
     requires { HasHeard station.old 0 }
     ensures { HasHeard station.new 1 }
 {
     let before = station.role();
     station.hear(Tick(0), SILENCE);
-    station.load(1, &[9]);
     if let Role::Serving = before {
         if let Role::Serving = station.role() {
             if station.items_left() > 0 {
                 station.take(Tick(20));
+                station.load(1, &[9]);
                 return true;
             }
         }

@@ -1,6 +1,5 @@
-use Rattle.std.proofs.Common.{◌≡◌, ◌≤◌, ◌+◌, ◌-◌, ◌++◌, ◌∙◌, ap, sym, arith, refl}
+use Rattle.std.proofs.Common.{◌-◌, ◌++◌, ◌∙◌, ap, sym, arith, refl}
 use Rattle.std.specs.Prelude.{option_to_list}
-use Rattle.bus_buffers.specs.Blocks.{received_in}
 use Rattle.bus_run.specs.Terminals.{block_of, blocks_below}
 use Rattle.bus_run.proofs.TerminalLaws.{no-blocks, blocks-more}
 use Rattle.bus_run.proofs.ends.put_blocks.Goals as goal

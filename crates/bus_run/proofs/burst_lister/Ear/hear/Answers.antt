@@ -1,7 +1,6 @@
-use Rattle.std.proofs.Common.{◌≡◌, ◌∷◌, ◌∙◌, sym, refl, arith, lit≤, ap, length, ◌<◌, ◌^◌}
+use Rattle.std.proofs.Common.{◌∷◌, ◌∙◌, refl, lit≤}
 use Rattle.bus_line.specs.declared.cutter.TheConstants.{LAG}
 use Rattle.bus_line.proofs.CutNow.{cut-tells}
-use Rattle.bus_run.specs.BurstListers.{EndFits, EarStands}
 use Rattle.bus_run.proofs.BurstLaws.{end-fits, ear-tells, ear-keeps}
 use Rattle.bus_run.proofs.burst_lister.Ear.hear.Goals as goal
 

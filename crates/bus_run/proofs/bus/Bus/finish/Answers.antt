@@ -1,4 +1,4 @@
-use Rattle.std.proofs.Common.{◌≡◌, ◌≤◌, ◌<◌, suc, ℕ, true, false, arith, subst, sym, ◌∙◌}
+use Rattle.std.proofs.Common.{◌≡◌, suc, true, false, arith, subst, sym, ◌∙◌}
 use Rattle.std.specs.Prelude.{is_some}
 use Rattle.bus_run.specs.Ends.{has_ended}
 use Rattle.bus_run.specs.Stands.{BusStands, shown_in}

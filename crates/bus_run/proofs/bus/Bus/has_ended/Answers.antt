@@ -1,9 +1,5 @@
-use Rattle.std.proofs.Common.{◌≡◌, ◌≤◌, ◌<◌, ◌∙◌, [], sym, arith, true, false}
-use Rattle.bus_line.specs.declared.cutter.TheConstants.{LAG}
-use Rattle.bus_model.specs.World.{world}
-use Rattle.bus_run.specs.Amounts.{most_ticks}
-use Rattle.bus_run.specs.Ends.{is_outgrown}
-use Rattle.bus_run.specs.Stands.{BusStands, Stands}
+use Rattle.std.proofs.Common.{◌≤◌, ◌<◌, ◌∙◌, sym, arith}
+use Rattle.bus_run.specs.Stands.{BusStands}
 use Rattle.bus_run.proofs.BusLaws.{ends-at-bound, ends-outgrown, ends-over}
 use Rattle.bus_run.proofs.bus.Bus.has_ended.Goals as goal
 

@@ -1,10 +1,10 @@
-use Rattle.std.proofs.Common.{◌≡◌, ◌≤◌, ◌∙◌, ◌*◌, ◌||◌, nat_lt, length, ap, sym, arith, []}
+use Rattle.std.proofs.Common.{◌∙◌, length, ap, arith, []}
 use Rattle.std.proofs.lemmas.List.{length-map}
 use Rattle.bus_line.specs.Channels.{valid, bursts}
 use Rattle.bus_line.specs.declared.cutter.TheConstants.{LAG}
 use Rattle.bus_model.specs.World.{world}
 use Rattle.bus_model.specs.WorldLog.{heard_word, heard_burst}
-use Rattle.bus_run.specs.Stands.{BusStands, Stands}
+use Rattle.bus_run.specs.Stands.{BusStands}
 use Rattle.bus_run.proofs.BusLaws.{most-attempts-few, same-past}
 use Rattle.bus_run.proofs.bus.Bus.is_outgrown.Goals as goal
 

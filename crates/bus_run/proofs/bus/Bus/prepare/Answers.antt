@@ -1,5 +1,4 @@
-use Rattle.std.proofs.Common.{◌≡◌, ◌*◌, List, [], sym, subst, refl, ℕ}
-use Rattle.bus_base.specs.declared.samples.Pair.{Pair}
+use Rattle.std.proofs.Common.{◌*◌, [], sym, subst, refl, ℕ}
 use Rattle.bus_run.specs.Amounts.{most_attempts, most_words, most_bursts}
 use Rattle.bus_run.specs.Crews.{CrewStands}
 use Rattle.bus_run.specs.Monitors.{MonitorStands}

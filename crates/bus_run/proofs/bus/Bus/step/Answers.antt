@@ -1,14 +1,13 @@
-use Rattle.std.proofs.Common.{◌≡◌, ◌≤◌, ◌<◌, ◌+◌, ◌∷◌, [], suc, ◌∙◌, List, length, ap, sym, arith, subst, add-one}
-use Rattle.bus_base.specs.declared.samples.Drive.{Drive}
+use Rattle.std.proofs.Common.{◌≡◌, ◌∷◌, [], suc, ◌∙◌, List, length, ap, sym, arith, subst, add-one}
 use Rattle.bus_base.specs.declared.samples.Pair.{Pair}
 use Rattle.bus_line.specs.declared.cutter.TheConstants.{LAG}
 use Rattle.bus_model.specs.Wire.{shown}
 use Rattle.bus_model.specs.World.{world, trace}
-use Rattle.bus_run.specs.Amounts.{most_attempts, most_ticks, most_words, most_bursts}
+use Rattle.bus_run.specs.Amounts.{most_attempts, most_words, most_bursts}
 use Rattle.bus_run.specs.Parts.{StationsStand, CableStands}
 use Rattle.bus_run.specs.Crews.{CrewStands}
 use Rattle.bus_run.specs.Monitors.{MonitorStands}
-use Rattle.bus_run.specs.Stands.{BusStands, Stands, shown_in}
+use Rattle.bus_run.specs.Stands.{BusStands}
 use Rattle.bus_run.proofs.BusLaws.{world-next, driven-next, world-length, driven-length, goes-on}
 use Rattle.bus_run.proofs.bus.Bus.step.Goals as goal
 

@@ -1,7 +1,5 @@
-use Rattle.std.proofs.Common.{◌≡◌, ◌∷◌, [], ◌∙◌, length, sym, ap, arith, refl, ◌++◌, ◌<◌}
-use Rattle.std.specs.Prelude.{slice_get, Some}
+use Rattle.std.proofs.Common.{[], ◌∙◌, length, ap, arith, refl, ◌++◌, ◌<◌}
 use Rattle.std.proofs.lemmas.Option.{slice_get_read}
-use Rattle.bus_line.specs.declared.cutter.TheConstants.{LAG}
 use Rattle.bus_model.specs.Starts.{starts}
 use Rattle.bus_run.proofs.CrewLaws.{found-at, stands-before, hears-more}
 use Rattle.bus_run.proofs.crew.Crew.hear_at.Goals as goal

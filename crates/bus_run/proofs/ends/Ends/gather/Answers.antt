@@ -1,7 +1,6 @@
-use Rattle.std.proofs.Common.{◌≡◌, ◌≤◌, ◌<◌, ◌+◌, ◌*◌, ◌∙◌, length, map, ap, sym, refl, subst, arith}
+use Rattle.std.proofs.Common.{◌∙◌, length, map, ap, refl, arith}
 use Rattle.std.specs.Prelude.{flat_map}
 use Rattle.bus_model.specs.Log.{terminal_end, blocks_of}
-use Rattle.bus_run.specs.Terminals.{so_far, ArePut}
 use Rattle.bus_run.proofs.TerminalLaws.{so-far-all}
 use Rattle.bus_run.proofs.ends.Ends.gather.Goals as goal
 

@@ -1,4 +1,4 @@
-use Rattle.std.proofs.Common.{◌≡◌, ◌∷◌, [], ◌++◌, ◌∙◌, ap, sym, refl, false}
+use Rattle.std.proofs.Common.{[], ◌∙◌, ap, sym, refl, false}
 use Rattle.bus_model.specs.Memory.{Memory, status_of}
 use Rattle.bus_buffers.specs.Blocks.{Blocks}
 use Rattle.bus_run.proofs.TerminalLaws.{put-one, end-same}

@@ -1,5 +1,5 @@
-use Rattle.std.proofs.Common.{◌≡◌, ◌≤◌, ◌<◌, ◌+◌, ◌∷◌, ◌++◌, ◌∙◌, suc, length, sym, ap, arith, subst, if◌then◌else◌}
-use Rattle.std.specs.Prelude.{option_to_list, vec_len, vec_capacity}
+use Rattle.std.proofs.Common.{◌∷◌, ◌++◌, ◌∙◌, suc, sym, ap, arith, subst, if◌then◌else◌}
+use Rattle.std.specs.Prelude.{option_to_list, vec_capacity}
 use Rattle.bus_base.specs.declared.samples.Channel.TheVariants.{A, B}
 use Rattle.bus_line.specs.Channels.{both_quiet}
 use Rattle.bus_line.specs.declared.cutter.TheConstants.{LAG}
