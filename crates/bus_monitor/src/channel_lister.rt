@@ -43,6 +43,7 @@ impl ChannelLister {
     }
 
     /// Hears what the channel shows in tick `now`, and adds the line of the message that closes in this tick, if one does.
+    #[inline(always)]
     pub(crate) fn list(&mut self, channel: Channel, now: u64, sample: Sample, text: &mut Line)
         requires past { (past : List Sample) × ChannelListerStands self.old past × (length past ≡ now) × (now < 2 ^ 60) }
         requires room { length text.old ≤ 400 }

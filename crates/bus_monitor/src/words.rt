@@ -55,7 +55,9 @@ impl Lister for WordLister {
     }
 }
 
-// Adds the line of the valid word that ends in this tick, if what became known of the channel has one.
+// Adds the line of the valid word that ends in this tick, if what became known of the channel has one. It is called twice a tick, and mostly
+// does nothing.
+#[inline(always)]
 fn add_cut(cut: Cut, channel: Channel, tick: u64, text: &mut Line)
     requires { length text.old ≤ 500 }
     ensures text { text.new ≡ text.old ++ flat_map word_line (option_to_list (heard_in cut channel tick)) }

@@ -1,7 +1,7 @@
 -- The stations hear a tick one after the other.
-use Rattle.std.proofs.Common.{◌≡◌, ◌≢◌, ℕ, zero, suc, ◌+◌, ◌<◌, ◌≤◌, Bool, true, false, not, nat_lt, List, [], ◌∷◌, ◌++◌, length, take, map, refl, ap, sym, ◌∙◌, arith, add-one, append-nil, append_assoc, subst, if◌then◌else◌, inl, inr, ◌⊎◌, Option, Some, None}
+use Rattle.std.proofs.Common.{◌≡◌, ◌≢◌, ℕ, zero, suc, ◌+◌, ◌<◌, ◌≤◌, true, false, nat_lt, List, [], ◌∷◌, ◌++◌, length}
+use Rattle.std.proofs.Common.{take, refl, ap, sym, ◌∙◌, arith, add-one, append-nil, append_assoc, subst, if◌then◌else◌, inl, inr, ◌⊎◌, Some, None}
 use Rattle.std.specs.Prelude.{flat_map, filter, slice_get, set, vec_capacity}
-use Rattle.std.specs.List.{list_any}
 use Rattle.std.proofs.lemmas.Bool.{cases_eq, cases_lt}
 use Rattle.std.proofs.lemmas.Bool.Decides.{nat_tests}
 use Rattle.std.proofs.lemmas.Option.{slice_get_within, same_Some}
@@ -17,24 +17,26 @@ use Rattle.bus_model.specs.Control.{course_after}
 use Rattle.bus_model.specs.World.{is_present}
 use Rattle.bus_model.specs.WorldLog.{attempt_at, ended_by, attempts}
 use Rattle.bus_station.specs.StationStands.{StationStands}
-use Rattle.bus_station.specs.Told.{ended_in, ended_newest}
+use Rattle.bus_station.specs.Told.{ended_in}
 use Rattle.bus_station.specs.declared.station.Station.{Station}
-use Rattle.bus_run.specs.Parts.{StationsStand}
 use Rattle.bus_run.specs.Crews.{CrewStands, CrewHears, heard_at, ended_of}
 use Rattle.bus_run.specs.declared.crew.Crew.{Crew}
 
 -- ---- lists
 
+-- the elements before a place, and the one there
 pub take-next : {A : Type 0} (xs : List A) (i : ℕ) (x : A) → slice_get xs i ≡ Some x → take (suc i) xs ≡ take i xs ++ x ∷ []
 take-next [] i x is = (let no : None ≡ Some x = is in cc)
 take-next (y ∷ xs) zero x is = ap (λ z. z ∷ []) (same_Some y x is)
 take-next (y ∷ xs) (suc i) x is = ap (λ zs. y ∷ zs) (take-next xs i x is)
 
+-- what was set
 pub set-same : {A : Type 0} (xs : List A) (i : ℕ) (y : A) → i < length xs → slice_get (set xs i y) i ≡ Some y
 set-same [] i y within = absurd (omega (arith, within))
 set-same (x ∷ xs) zero y within = refl
 set-same (x ∷ xs) (suc i) y within = set-same xs i y (omega (arith, within))
 
+-- what was not
 pub set-other : {A : Type 0} (xs : List A) (i j : ℕ) (y : A) → j ≢ i → slice_get (set xs i y) j ≡ slice_get xs j
 set-other [] i j y other = refl
 set-other (x ∷ xs) zero zero y other = absurd (other refl)
@@ -42,13 +44,16 @@ set-other (x ∷ xs) zero (suc j) y other = refl
 set-other (x ∷ xs) (suc i) zero y other = refl
 set-other (x ∷ xs) (suc i) (suc j) y other = set-other xs i j y (λ same. other (ap suc same))
 
+-- all elements
 pub take-all : {A : Type 0} (xs : List A) → take (length xs) xs ≡ xs
 take-all [] = refl
 take-all (x ∷ xs) = ap (λ ys. x ∷ ys) (take-all xs)
 
-flat_map-one : {A B : Type 0} (f : A → List B) (x : A) → flat_map f (x ∷ []) ≡ f x
+-- one element alone
+pub flat_map-one : {A B : Type 0} (f : A → List B) (x : A) → flat_map f (x ∷ []) ≡ f x
 flat_map-one f x = flat_map-cons f x [] ∙ append-nil (f x)
 
+-- there is an element at a place within
 pub found-at : {A : Type 0} (xs : List A) (i : ℕ) → i < length xs → (x : A) × (slice_get xs i ≡ Some x)
 found-at [] i within = absurd (omega (arith, within))
 found-at (x ∷ xs) zero within = (x, refl)
@@ -56,14 +61,17 @@ found-at (x ∷ xs) (suc i) within = found-at xs i (omega (arith, within))
 
 -- ---- where every station is present
 
+-- no station is absent
 pub all-present : (stations : List StationData) → filter (is_present []) stations ≡ stations
 all-present [] = refl
 all-present (s ∷ stations) = ap (λ ss. s ∷ ss) (all-present stations)
 
+-- both look for the newest attempt
 ended-found : (plan : PlanData) (address tick : ℕ) (ended : List Attempt) → ended_in address tick ended ≡ attempt_at LAG plan [] [] [] address tick ended
 ended-found plan address tick [] = refl
 ended-found plan address tick (attempt ∷ ended) = refl
 
+-- the attempts that the stations tell are those that the log looks for
 ended-same : (plan : PlanData) (shown : Pair) (past : List Pair) (stations : List StationData) →
     flat_map (ended_of plan (shown ∷ past)) stations ≡ flat_map (ended_by LAG plan [] [] [] (shown ∷ past) (length past)) stations
 ended-same plan shown past [] = refl
@@ -82,29 +90,39 @@ attempts-next plan shown past =
     ap (λ ss. attempts LAG plan [] [] [] past ++ flat_map (ended_by LAG plan [] [] [] (shown ∷ past) (length past)) ss) (all-present plan.stations)
     ∙ ap (λ xs. attempts LAG plan [] [] [] past ++ xs) (sym (ended-same plan shown past plan.stations))
 
+-- no attempt before the first tick
 pub attempts-none : (plan : PlanData) → attempts LAG plan [] [] [] [] ≡ []
 unfolding attempts
 attempts-none plan = refl
 
 -- ---- one station after the other
 
+-- a number is not below itself
 not-below : (n : ℕ) → nat_lt n n ≡ false
 not-below n = grind (arith, nat_tests)
 
+-- none is below 0
 none-below : (n : ℕ) → nat_lt n 0 ≡ false
 none-below n = grind (arith, nat_tests)
 
+-- it is below the next
 below-more : (n : ℕ) → nat_lt n (n + 1) ≡ true
 below-more n = grind (arith, nat_tests)
 
+-- below the next, for another number
 below-by : (i n : ℕ) → i ≢ n → (i < n) ⊎ (n ≤ i) → nat_lt i (n + 1) ≡ nat_lt i n
-below-by i n other (inl low) = (let a : nat_lt i (n + 1) ≡ true = grind (arith, nat_tests, low) in let b : nat_lt i n ≡ true = grind (arith, nat_tests, low) in a ∙ sym b)
+below-by i n other (inl low) = (let a : nat_lt i (n + 1) ≡ true = grind (arith, nat_tests, low) in let b : nat_lt i n ≡ true = grind (
+  arith,
+  nat_tests,
+  low,
+) in a ∙ sym b)
 below-by i n other (inr high) =
     let above : n < i = omega (arith, high, other) in
     let a : nat_lt i (n + 1) ≡ false = grind (arith, nat_tests, above) in
     let b : nat_lt i n ≡ false = grind (arith, nat_tests, above) in
     a ∙ sym b
 
+-- another number is below the next as below it
 below-other : (i n : ℕ) → i ≢ n → nat_lt i (n + 1) ≡ nat_lt i n
 below-other i n other = below-by i n other (cases_lt i n)
 
@@ -115,21 +133,26 @@ pub stands-before : (plan : PlanData) (place : ℕ) (shown : Pair) (past : List 
 stands-before plan place shown past crew s value hears here at =
     subst (λ b. StationStands LAG s (starts plan s) [] [] value (if b then shown ∷ past else past)) (not-below place) (hears.each place s value here at)
 
-each-more : (plan : PlanData) (place : ℕ) (shown : Pair) (past : List Pair) (crew : Crew) (own : StationData) (new : Station) → place < length crew.stations.items →
+-- each station after one more heard the tick
+each-more : (plan : PlanData) (place : ℕ) (shown : Pair) (past : List Pair) (crew : Crew) (own : StationData) (new : Station) →
+    place < length crew.stations.items →
     CrewHears plan place shown past crew → slice_get plan.stations place ≡ Some own → StationStands LAG own (starts plan own) [] [] new (shown ∷ past) →
     (i : ℕ) (s : StationData) (value : Station) → (i ≡ place) ⊎ (i ≢ place) → slice_get plan.stations i ≡ Some s →
     slice_get (set crew.stations.items place new) i ≡ Some value → StationStands LAG s (starts plan s) [] [] value (heard_at i (place + 1) shown past)
 each-more plan place shown past crew own new within hears here stands i s value (inl same) found at =
-    let at-place : slice_get (set crew.stations.items place new) place ≡ Some value = subst (λ j. slice_get (set crew.stations.items place new) j ≡ Some value) same at in
+    let at-place : slice_get (set crew.stations.items place new) place ≡ Some value = subst (λ j. slice_get
+    (set crew.stations.items place new) j ≡ Some value) same at in
     let new-is : new ≡ value = same_Some new value (sym (set-same crew.stations.items place new within) ∙ at-place) in
     let own-is : own ≡ s = same_Some own s (sym here ∙ subst (λ j. slice_get plan.stations j ≡ Some s) same found) in
     let stands-new : StationStands LAG s (starts plan s) [] [] value (shown ∷ past) =
-    subst (λ v. StationStands LAG s (starts plan s) [] [] v (shown ∷ past)) new-is (subst (λ d. StationStands LAG d (starts plan d) [] [] new (shown ∷ past)) own-is stands) in
+    subst (λ v. StationStands LAG s (starts plan s) [] [] v (shown ∷ past)) new-is (subst (λ d. StationStands LAG d (starts plan d) [] [] new
+    (shown ∷ past)) own-is stands) in
     rw same (subst (λ b. StationStands LAG s (starts plan s) [] [] value (if b then shown ∷ past else past)) (sym (below-more place)) stands-new)
 each-more plan place shown past crew own new within hears here stands i s value (inr other) found at =
     subst (λ b. StationStands LAG s (starts plan s) [] [] value (if b then shown ∷ past else past)) (sym (below-other i place other))
     (hears.each i s value found (sym (set-other crew.stations.items place i new other) ∙ at))
 
+-- the attempts with those of one station more
 ended-more : (plan : PlanData) (shown : Pair) (past : List Pair) (place : ℕ) (own : StationData) → slice_get plan.stations place ≡ Some own →
     flat_map (ended_of plan (shown ∷ past)) (take place plan.stations) ++ ended_of plan (shown ∷ past) own
     ≡ flat_map (ended_of plan (shown ∷ past)) (take (place + 1) plan.stations)
@@ -153,11 +176,13 @@ hears-more plan place shown past crew next own new within hears here stands is e
 }
 
 -- before the first station heard it
-pub hears-start : (most : ℕ) (plan : PlanData) (shown : Pair) (past : List Pair) (crew : Crew) → CrewStands most plan crew past → CrewHears plan 0 shown past crew
+pub hears-start : (most : ℕ) (plan : PlanData) (shown : Pair) (past : List Pair) (crew : Crew) → CrewStands most plan crew past →
+    CrewHears plan 0 shown past crew
 hears-start most plan shown past crew st = record {
   all = st.stations.all;
   each = λ i s value found at.
-      subst (λ b. StationStands LAG s (starts plan s) [] [] value (if b then shown ∷ past else past)) (sym (none-below i)) (st.stations.each i s value found at);
+      subst (λ b. StationStands LAG s (starts plan s) [] [] value (if b then shown ∷ past else past)) (sym (none-below i))
+      (st.stations.each i s value found at);
   attempts_are = st.attempts_are ∙ sym (append-nil (attempts LAG plan [] [] [] past));
 }
 
@@ -168,12 +193,17 @@ hears-end most place plan shown past crew whole room hears = record {
   stations = record {
     all = hears.all;
     each = λ i s value found at.
-        let within : i < place = (let below : i < length crew.stations.items = slice_get_within crew.stations.items i value at in omega (arith, below, whole)) in
+        let within : i < place = (let below : i < length crew.stations.items = slice_get_within crew.stations.items i value at in omega (
+          arith,
+          below,
+          whole,
+        )) in
         let test : nat_lt i place ≡ true = grind (arith, nat_tests, within) in
         subst (λ b. StationStands LAG s (starts plan s) [] [] value (if b then shown ∷ past else past)) test (hears.each i s value found at);
   };
   attempts_are = hears.attempts_are
-      ∙ ap (λ ss. attempts LAG plan [] [] [] past ++ flat_map (ended_of plan (shown ∷ past)) ss) (ap (λ n. take n plan.stations) (whole ∙ hears.all) ∙ take-all plan.stations)
+      ∙ ap (λ ss. attempts LAG plan [] [] [] past ++ flat_map (ended_of plan (shown ∷ past)) ss) (ap (λ n. take n plan.stations) (whole ∙ hears.all)
+      ∙ take-all plan.stations)
       ∙ sym (attempts-next plan shown past);
   room = room;
 }

@@ -1,5 +1,6 @@
 -- Whether every station is idle and none is taking control.
-use Rattle.std.proofs.Common.{◌≡◌, ℕ, zero, suc, ◌+◌, ◌<◌, Bool, true, false, not, ◌&&◌, List, [], ◌∷◌, length, drop, refl, ap, sym, ◌∙◌, arith, add-one, Option, Some, None, if◌then◌else◌}
+use Rattle.std.proofs.Common.{◌≡◌, ℕ, zero, suc, ◌+◌, Bool, true, false, not, ◌&&◌, List, []}
+use Rattle.std.proofs.Common.{◌∷◌, length, drop, refl, ap, sym, ◌∙◌, add-one, Option, Some, None, if◌then◌else◌}
 use Rattle.std.specs.Prelude.{is_none, slice_get}
 use Rattle.std.specs.List.{list_all}
 use Rattle.std.proofs.lemmas.Option.{same_Some}
@@ -13,20 +14,25 @@ takes-by false taking = refl
 takes-by true None = refl
 takes-by true (Some first) = refl
 
+-- twice not
 not-not : (b : Bool) → not (not b) ≡ b
 not-not true = refl
 not-not false = refl
 
+-- an idle station that is not taking control, by its role
 pub none-taking : (idle : Bool) (role : Role) (holds : Bool) (taking : Option ℕ) → role ≡ role_by holds (if holds then taking else None) →
     (idle && not (takes role)) ≡ (idle && is_none (if holds then taking else None))
 none-taking idle role holds taking is =
-    ap (λ r. idle && not (takes r)) is ∙ ap (λ b. idle && not b) (takes-by holds taking) ∙ ap (λ b. idle && b) (not-not (is_none (if holds then taking else None)))
+    ap (λ r. idle && not (takes r)) is ∙ ap (λ b. idle && not b) (takes-by holds taking) ∙ ap (λ b. idle && b) (not-not (is_none
+    (if holds then taking else None)))
 
+-- the elements from a place on
 from : {A : Type 0} (xs : List A) (i : ℕ) (x : A) → slice_get xs i ≡ Some x → drop i xs ≡ x ∷ drop (suc i) xs
 from [] i x here = (let no : None ≡ Some x = here in cc)
 from (y ∷ xs) zero x here = ap (λ z. z ∷ xs) (same_Some y x here)
 from (y ∷ xs) (suc i) x here = from xs i x here
 
+-- the same by the place after it
 pub rest-from : {A : Type 0} (xs : List A) (i : ℕ) (x : A) → slice_get xs i ≡ Some x → drop i xs ≡ x ∷ drop (i + 1) xs
 rest-from xs i x here = from xs i x here ∙ ap (λ n. x ∷ drop n xs) (sym (add-one i))
 
@@ -39,6 +45,7 @@ all-next p xs i x here is = ap (list_all p) (rest-from xs i x here) ∙ ap (λ b
 pub all-ends : {A : Type 0} (p : A → Bool) (xs : List A) (i : ℕ) (x : A) → slice_get xs i ≡ Some x → p x ≡ false → list_all p (drop i xs) ≡ false
 all-ends p xs i x here is = ap (list_all p) (rest-from xs i x here) ∙ ap (λ b. b && list_all p (drop (i + 1) xs)) is
 
+-- nobody is left to be asked
 pub all-asked : {A : Type 0} (p : A → Bool) (xs : List A) (n : ℕ) → n ≡ length xs → list_all p (drop n xs) ≡ true
 all-asked p [] n is = rw is refl
 all-asked p (x ∷ xs) n is = rw is (all-asked p xs (length xs) refl)

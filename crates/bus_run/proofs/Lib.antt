@@ -6,3 +6,7 @@ pub mod MonitorLaws
 pub mod CrewLaws
 pub mod DoneLaws
 pub mod BusLaws
+pub mod TerminalLaws
+pub mod FinishLaws
+pub mod PrepareLaws
+pub mod Gathered

@@ -1,4 +1,4 @@
--- How many attempts and ticks a run of a plan can have at most.
+-- The bounds of a run: on its ticks, and on the attempts, bursts and words for which room is made.
 use Rattle.std.specs.Prelude.{ℕ, ◌+◌, ◌*◌, min, length, sum_by}
 use Rattle.bus_formats.specs.Plans.{ItemData, FrameData, StationData, PlanData}
 
@@ -27,11 +27,11 @@ ticks_of_station station = station.repeat * sum_by (λ f. f.ticks) station.frame
 unfoldable pub frame_ticks : PlanData → ℕ
 frame_ticks plan = counted (sum_by ticks_of_station plan.stations)
 
--- a run has no more ticks: those of its frames, 10,000 for each attempt, and those before the first and after the last
+-- the bound on ticks: those of the frames, 10,000 for each attempt, and those before the first and after the last
 unfoldable pub most_ticks : PlanData → ℕ
 most_ticks plan = min 4294967295 (88 + frame_ticks plan + 10000 * most_attempts plan)
 
--- each attempt shows at most three bursts, each of at most forty words
+-- three bursts for each attempt, each of forty words
 abbrev pub most_bursts : PlanData → ℕ
 most_bursts plan = 3 * most_attempts plan
 

@@ -8,8 +8,7 @@ use Rattle.bus_model.specs.World.{world, run_is_over}
 use Rattle.bus_model.specs.WorldLog.{attempts}
 use Rattle.bus_run.specs.Amounts.{most_attempts, most_ticks, most_words, most_bursts}
 
--- more attempts, words or bursts than a run can have: their room is used up. By the law that the world does what the run of the plan says
--- no plan comes to this, nor to the bound on ticks
+-- there are more attempts, words or bursts than room is made for. That no plan comes to this, nor to the bound on ticks, is not proved here
 abbrev pub is_outgrown : PlanData → List Pair → Bool
 is_outgrown plan past =
     nat_lt (most_attempts plan) (length (attempts LAG plan [] [] [] past))

@@ -4,4 +4,6 @@ pub mod BurstListers
 pub mod Monitors
 pub mod Crews
 pub mod Ends
+pub mod Terminals
 pub mod Stands
+pub mod Kept

@@ -1,4 +1,4 @@
-//! How many attempts and ticks a run of a plan can have at most.
+//! The bounds of a run.
 ghost use Rattle.std.specs.Prelude.{◌≡◌, ◌≤◌, ◌<◌, ◌+◌, ◌*◌, ◌^◌, min, sum_by};
 ghost use Rattle.bus_run.specs.Amounts as spec;
 

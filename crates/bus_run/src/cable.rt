@@ -86,9 +86,5 @@ fn clashes_after(clashes: u64, drivers: [u8; 2]) -> u64
     ensures { (a b : ℕ) → drivers ≡ a ∷ b ∷ [] → result ≡ (if nat_lt 1 a || nat_lt 1 b then 1 else 0) + clashes }
 {
     let [a, b] = drivers;
-    if a > 1 || b > 1 {
-        clashes + 1
-    } else {
-        clashes
-    }
+    if a > 1 || b > 1 { clashes + 1 } else { clashes }
 }

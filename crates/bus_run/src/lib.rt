@@ -1,16 +1,25 @@
 //! The bus: the stations of a plan over its wire, tick by tick, what a monitor hears of it, and the log of its run (MIL-STD-1553B 4.4.4,
-//! 4.6). It is proved that what it shows, tells and keeps is what `bus_model` finds in the world of the plan.
+//! 4.6).
+//!
+//! `specs/Stands` says for which plan and number of ticks a bus stands. It is proved that after so many ticks what `tick` answered is what
+//! the channels show in the world of the plan, each station stands for its plan and that world, and the attempts, words, bursts and clashes
+//! are those that are found there; that the run ends exactly where `specs/Ends` says; and that the log of a finished run is the one that
+//! `bus_model` finds. `prepare` takes all memory, and a tick none.
 #![tactic(auto)]
 
 pub mod amounts;
 pub mod burst_lister;
 pub mod bus;
 pub mod cable;
+pub mod copies;
 pub mod crew;
+pub mod ends;
+pub mod finished;
+pub mod kept;
 pub mod monitor;
+pub mod objects;
+pub mod prepare;
 pub mod room;
 
 pub use bus::Bus;
-pub use cable::Cable;
-pub use crew::Crew;
-pub use monitor::Monitor;
+pub use finished::FinishedBus;

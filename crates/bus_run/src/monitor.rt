@@ -59,7 +59,8 @@ impl Monitor {
         requires room { vec_len self.old.words + 2 ≤ vec_capacity self.old.words }
         ensures stands { (past : List Pair) → WordListerStands self.old.word_lister past → WordListerStands self.new.word_lister (shown ∷ past) }
         ensures words { (past : List Pair) → WordListerStands self.old.word_lister past →
-            self.new.words.items ≡ (self.old.words.items ++ option_to_list (heard_now LAG A (shown ∷ past))) ++ option_to_list (heard_now LAG B (shown ∷ past)) }
+            self.new.words.items
+            ≡ (self.old.words.items ++ option_to_list (heard_now LAG A (shown ∷ past))) ++ option_to_list (heard_now LAG B (shown ∷ past)) }
         ensures room { vec_capacity self.new.words ≡ vec_capacity self.old.words }
         ensures burst_lister { self.new.burst_lister ≡ self.old.burst_lister }
         ensures bursts { self.new.bursts ≡ self.old.bursts }
@@ -76,7 +77,8 @@ impl Monitor {
         ensures stands { (past : List Pair) → BurstListerStands LAG self.old.burst_lister past → length past ≡ tick →
             BurstListerStands LAG self.new.burst_lister (shown ∷ past) }
         ensures bursts { (past : List Pair) → BurstListerStands LAG self.old.burst_lister past → length past ≡ tick →
-            self.new.bursts.items ≡ (self.old.bursts.items ++ option_to_list (burst_on LAG A (shown ∷ past))) ++ option_to_list (burst_on LAG B (shown ∷ past)) }
+            self.new.bursts.items
+            ≡ (self.old.bursts.items ++ option_to_list (burst_on LAG A (shown ∷ past))) ++ option_to_list (burst_on LAG B (shown ∷ past)) }
         ensures room { vec_capacity self.new.bursts ≡ vec_capacity self.old.bursts }
         ensures word_lister { self.new.word_lister ≡ self.old.word_lister }
         ensures words { self.new.words ≡ self.old.words }

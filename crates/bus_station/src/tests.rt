@@ -233,18 +233,18 @@ const SILENCE: Pair = Pair {
     b: Sample::Quiet,
 };
 
-// A station that serves hears a quiet tick, puts up a block for sending, and takes control with its first command in tick 20.
+// A station that serves hears a quiet tick, takes control with its first command in tick 20, and puts up a block for sending.
 fn takes_over(station: &mut Station) -> bool
     requires { HasHeard station.old 0 }
     ensures { HasHeard station.new 1 }
 {
     let before = station.role();
     station.hear(Tick(0), SILENCE);
-    station.load(1, &[9]);
     if let Role::Serving = before {
         if let Role::Serving = station.role() {
             if station.items_left() > 0 {
                 station.take(Tick(20));
+                station.load(1, &[9]);
                 return true;
             }
         }

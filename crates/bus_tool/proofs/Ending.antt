@@ -1,12 +1,20 @@
 -- What each answer shows, from what its parts show.
-use Rattle.std.proofs.Common.{◌≡◌, ℕ, ◌+◌, ◌-◌, ◌≤◌, ◌<◌, List, [], ◌++◌, length, take, Option, Some, None, refl, inl, inr, arith, sym, ◌∙◌, ap, append-nil, subst}
+use Rattle.std.proofs.Common.{◌≡◌, ℕ, zero, suc, ◌+◌, ◌-◌, ◌≤◌, ◌<◌, List, [], ◌++◌, length, take, Option, Some, None, refl, inl, inr, arith, sym, ◌∙◌, ap, append-nil, subst}
+use Rattle.std.specs.Prelude.{Bool, true, false, ◌⊎◌, if◌then◌else◌}
 use Rattle.std.proofs.lemmas.List.{take_all, take-append-le}
 use Rattle.std.proofs.lemmas.Bool.{cases_lt}
 use Rattle.std.specs.Io.KnownBytes.{Consumes, IsAtEnd, Appends}
 use Rattle.bus_outside.specs.Causes.{Rose, GrowsByFront}
+use Rattle.bus_formats.specs.Logs.{LogData}
+use Rattle.bus_line.specs.declared.cutter.TheConstants.{LAG}
+use Rattle.bus_model.specs.Log.{all_went_well}
+use Rattle.bus_model.specs.WorldLog.{world_log}
+use Rattle.bus_run.specs.declared.finished.FinishedBus.{FinishedBus}
 use Rattle.bus_tool.specs.Answers.{Answers}
 use Rattle.bus_tool.specs.Due.{input_refusal}
 use Rattle.bus_tool.specs.Ends.{ReadsInput, Ran, WasRefused, Stopped, IsFine, EndsRun}
+use Rattle.bus_tool.specs.Texts.{plan_run, text_of, status_of}
+use Rattle.bus_tool.specs.declared.text.Text.{Text}
 
 -- an input is refused or not
 one_refusal : (o : Option (List ℕ)) (text : List ℕ) → o ≡ Some text → o ≡ None → ⊥
@@ -27,30 +35,45 @@ told_input told input (Some rest) r =
     let front : input ≡ take 4194305 (input ++ rest) = front_or_all input rest r.short r.whole in
     front ∙ ap (λ l. take 4194305 l) (sym r.consumed)
 
-module _ (left0 left1 held0 held1 : Option (List ℕ)) (source0 source1 sink0 sink1 : ℕ)
+zero-or-one : (s : ℕ) → s ≤ 1 → (s ≡ 0) ⊎ (s ≡ 1) ⊎ (s ≡ 6)
+zero-or-one zero few = inl refl
+zero-or-one (suc zero) few = inr (inl refl)
+zero-or-one (suc (suc n)) few = absurd (omega (arith, few))
+
+-- the status after a run is 0 or 1
+status-few : (log : LogData) → status_of log ≤ 1
+status-few log = go (all_went_well log)
+  where
+    go : (well : Bool) → (if well then 0 else 1) ≤ 1
+    go true = omega arith
+    go false = omega arith
+
+module _ (left0 left1 held0 held1 : Option (List ℕ)) (source0 source1 sink0 sink1 : ℕ) (text : Text)
     (later_source : source0 ≤ source1) (later_sink : sink0 ≤ sink1) where
-  ran_ends : Ran left0 left1 held0 held1 source0 source1 sink0 sink1 0 → EndsRun left0 left1 held0 held1 source0 source1 sink0 sink1 0
-  ran_ends ran = record {
-    range = omega arith;
+  ran_ends : (status : ℕ) (bus : Option FinishedBus) → status ≤ 1 → Ran left0 left1 held0 held1 source0 source1 sink0 sink1 status bus text →
+      EndsRun left0 left1 held0 held1 source0 source1 sink0 sink1 status bus text
+  ran_ends status bus few ran = record {
+    range = omega (arith, few);
     later_source = later_source;
     later_sink = later_sink;
     ran = λ _. ran;
-    never = λ s. absurd (omega (arith, s));
-    meant = λ s. absurd (omega (arith, s));
-    refused = λ s. absurd (omega (arith, s));
-    read_fault = λ s. absurd (omega (arith, s));
-    write_fault = λ s. absurd (omega (arith, s));
-    memory = λ s. absurd (omega (arith, s));
-    complete = λ _. inl refl;
+    no_bus = λ s. absurd (omega (arith, s, few));
+    meant = λ s. omega (arith, s, few);
+    refused = λ s. absurd (omega (arith, s, few));
+    read_fault = λ s. absurd (omega (arith, s, few));
+    write_fault = λ s. absurd (omega (arith, s, few));
+    memory = λ s. absurd (omega (arith, s, few));
+    complete = λ _. zero-or-one status few;
   }
 
-  refused_ends : WasRefused left0 left1 held0 held1 source0 source1 sink0 sink1 3 → EndsRun left0 left1 held0 held1 source0 source1 sink0 sink1 3
+  refused_ends : WasRefused left0 left1 held0 held1 source0 source1 sink0 sink1 3 None text →
+      EndsRun left0 left1 held0 held1 source0 source1 sink0 sink1 3 None text
   refused_ends refused = record {
     range = omega arith;
     later_source = later_source;
     later_sink = later_sink;
     ran = λ s. absurd (omega (arith, s));
-    never = λ s. absurd (omega (arith, s));
+    no_bus = λ _. refl;
     meant = λ s. absurd (omega (arith, s));
     refused = λ _. refused;
     read_fault = λ s. absurd (omega (arith, s));
@@ -59,20 +82,21 @@ module _ (left0 left1 held0 held1 : Option (List ℕ)) (source0 source1 sink0 si
     complete = λ fine. absurd (not_fine fine);
   }
     where
-      not_fine : IsFine left0 left1 held0 held1 source0 source1 sink0 sink1 3 → ⊥
+      not_fine : IsFine left0 left1 held0 held1 source0 source1 sink0 sink1 3 None text → ⊥
       not_fine fine =
           let read : ReadsInput (Some fine.told) left1 refused.input = subst (λ l. ReadsInput l left1 refused.input) fine.left refused.read in
           let is : refused.input ≡ take 4194305 fine.told = told_input fine.told refused.input left1 read in
-          let none : input_refusal refused.input ≡ None = ap input_refusal is ∙ fine.accepted in
-          one_refusal (input_refusal refused.input) refused.text refused.due none
+          let none : input_refusal text refused.input ≡ None = ap (input_refusal text) is ∙ fine.accepted in
+          one_refusal (input_refusal text refused.input) refused.line refused.due none
 
-  stopped_ends : Rose sink0 sink1 → Stopped left0 left1 held0 held1 source0 source1 sink0 sink1 5 → EndsRun left0 left1 held0 held1 source0 source1 sink0 sink1 5
+  stopped_ends : Rose sink0 sink1 → Stopped left0 left1 held0 held1 source0 source1 sink0 sink1 5 None text →
+      EndsRun left0 left1 held0 held1 source0 source1 sink0 sink1 5 None text
   stopped_ends rose stopped = record {
     range = omega arith;
     later_source = later_source;
     later_sink = later_sink;
     ran = λ s. absurd (omega (arith, s));
-    never = λ s. absurd (omega (arith, s));
+    no_bus = λ _. refl;
     meant = λ s. absurd (omega (arith, s));
     refused = λ s. absurd (omega (arith, s));
     read_fault = λ s. absurd (omega (arith, s));
@@ -81,13 +105,13 @@ module _ (left0 left1 held0 held1 : Option (List ℕ)) (source0 source1 sink0 si
     complete = λ fine. absurd (fine.sink rose);
   }
 
-  memory_ends : held1 ≡ held0 → EndsRun left0 left1 held0 held1 source0 source1 sink0 sink1 6
+  memory_ends : held1 ≡ held0 → EndsRun left0 left1 held0 held1 source0 source1 sink0 sink1 6 None text
   memory_ends same = record {
     range = omega arith;
     later_source = later_source;
     later_sink = later_sink;
     ran = λ s. absurd (omega (arith, s));
-    never = λ s. absurd (omega (arith, s));
+    no_bus = λ _. refl;
     meant = λ s. absurd (omega (arith, s));
     refused = λ s. absurd (omega (arith, s));
     read_fault = λ s. absurd (omega (arith, s));
@@ -97,20 +121,40 @@ module _ (left0 left1 held0 held1 : Option (List ℕ)) (source0 source1 sink0 si
   }
 
   -- what the answer to an input that was read shows
-  pub answered : (input : List ℕ) (status : ℕ) → ReadsInput left0 left1 input → Answers held0 held1 sink0 sink1 status input →
-      EndsRun left0 left1 held0 held1 source0 source1 sink0 sink1 status
-  answered input status read answers = elim answers.answer [
-    | inl ran ↦ elim ran.3 [
-      | inl done ↦ rw done.0 (ran_ends record { input = input; read = read; accepted = ran.0; text = ran.1; report = ran.2; written = done.1 })
-      | inr failed ↦ rw failed.0 (stopped_ends failed.1
-          record { input = input; read = read; text = ran.1; due = inr (ran.0, ran.2); front = failed.2 })
+  pub answered : (input : List ℕ) (status : ℕ) (bus : Option FinishedBus) → ReadsInput left0 left1 input →
+      Answers held0 held1 sink0 sink1 status bus text input → EndsRun left0 left1 held0 held1 source0 source1 sink0 sink1 status bus text
+  answered input status bus read answers = elim answers.answer [
+    | inl ran ↦ elim ran.wrote [
+      | inl done ↦
+          let few = status-few (world_log LAG (plan_run text ran.plan) ran.ticks) in
+          ran_ends status bus (rw done.status_is few) record {
+            input = input;
+            read = read;
+            accepted = ran.accepted;
+            plan = ran.plan;
+            is_plan = ran.read;
+            ticks = ran.ticks;
+            ends = ran.ends;
+            left = done.left;
+            has = done.has;
+            stands = done.stands;
+            status_is = done.status_is;
+            written = done.written;
+          }
+      | inr failed ↦ rw (failed.status_is, failed.no_bus) (stopped_ends failed.failed record {
+        input = input;
+        read = read;
+        bytes = text_of text (plan_run text ran.plan) ran.ticks;
+        due = inr (ran.accepted, record { plan = ran.plan; read = ran.read; ticks = ran.ticks; ends = ran.ends; bytes_are = refl });
+        front = failed.front;
+      })
     ]
     | inr other ↦ elim other [
-      | inl refused ↦ elim refused.2 [
-        | inl done ↦ rw done.0 (refused_ends record { input = input; read = read; text = refused.0; due = refused.1; written = done.1 })
-        | inr failed ↦ rw failed.0 (stopped_ends failed.1
-            record { input = input; read = read; text = refused.0; due = inl refused.1; front = failed.2 })
+      | inl refused ↦ elim refused.2.wrote [
+        | inl done ↦ rw (done.0, refused.2.no_bus) (refused_ends record { input = input; read = read; line = refused.0; due = refused.1; written = done.1 })
+        | inr failed ↦ rw (failed.0, refused.2.no_bus) (stopped_ends failed.1
+            record { input = input; read = read; bytes = refused.0; due = inl refused.1; front = failed.2 })
       ]
-      | inr wanting ↦ rw wanting.0 (memory_ends wanting.1)
+      | inr wanting ↦ rw (wanting.0, wanting.1) (memory_ends wanting.2)
     ]
   ]

@@ -1,15 +1,15 @@
--- What the program owes for an input: the line of a refusal, or the report of the plan that was read.
+-- What the program owes for an input: the line of a refusal, or the text of the run of the plan that was read.
 use Rattle.std.specs.Prelude.{◌≡◌, ℕ, ◌⊎◌, nat_lt, if◌then◌else◌, List, [], ◌++◌, length, codes, Option, Some, None, Result, Ok, Err}
 use Rattle.bus_capture.specs.declared.refusal.CaptureRefusal.{CaptureRefusal}
 use Rattle.bus_capture.specs.declared.refusal.CaptureRefusal.TheVariants.{Header, Byte, HalfTick, Long}
-use Rattle.bus_formats.specs.Logs.{LogData}
 use Rattle.bus_formats.specs.Plans.{PlanData}
 use Rattle.bus_plan.specs.PlanOf.{plan_of_bytes}
 use Rattle.bus_plan.specs.Refusals.{number_of, name_of, place_of}
 use Rattle.bus_plan.specs.declared.refusal.PlanRefusal.{PlanRefusal}
-use Rattle.bus_report.specs.Report.{report_text}
+use Rattle.bus_run.specs.Stands.{EndsAfter}
 use Rattle.bus_text.specs.Texts.{line, number, spaced}
-use Rattle.bus_tool.specs.Built.{is_built}
+use Rattle.bus_tool.specs.Texts.{is_built, plan_run, text_of}
+use Rattle.bus_tool.specs.declared.text.Text.{Text}
 
 -- the most bytes of a plan's text
 abbrev pub limit : ℕ
@@ -43,21 +43,23 @@ capture_refusal_text (Long offset) = codes " long" ++ number offset
 abbrev pub capture_refusal_line : CaptureRefusal → List ℕ
 capture_refusal_line refusal = line (codes "capture refused" ++ capture_refusal_text refusal)
 
-abbrev pub refusal_of : Result PlanData PlanRefusal → Option (List ℕ)
-refusal_of (Err refusal) = Some (refusal_line refusal)
-refusal_of (Ok plan) = if is_built plan then None else Some not_built
+-- of a plan that isn't run for this text, too
+abbrev pub refusal_of : Text → Result PlanData PlanRefusal → Option (List ℕ)
+refusal_of text (Err refusal) = Some (refusal_line refusal)
+refusal_of text (Ok plan) = if is_built text plan then None else Some not_built
 
 -- the line with which an input is refused, if it is: it is too long, it is no plan, or the plan isn't built
-abbrev pub input_refusal : List ℕ → Option (List ℕ)
-input_refusal input = if nat_lt limit (length input) then Some too_long else refusal_of (plan_of_bytes input)
+abbrev pub input_refusal : Text → List ℕ → Option (List ℕ)
+input_refusal text input = if nat_lt limit (length input) then Some too_long else refusal_of text (plan_of_bytes input)
 
--- the text is the report of some log for the plan that was read
-pub record IsReport (input text : List ℕ) : Type 0 where
+-- the bytes are the text of the whole run of the plan that was read
+pub record IsRunOf (text : Text) (input bytes : List ℕ) : Type 0 where
   pub plan : PlanData
   pub read : plan_of_bytes input ≡ Ok plan
-  pub log : LogData
-  pub report : text ≡ report_text log plan []
+  pub ticks : ℕ
+  pub ends : EndsAfter (plan_run text plan) 0 ticks
+  pub bytes_are : bytes ≡ text_of text (plan_run text plan) ticks
 
--- a text that is due for an input
-abbrev pub IsDue : List ℕ → List ℕ → Type 0
-IsDue input text = (input_refusal input ≡ Some text) ⊎ ((input_refusal input ≡ None) × IsReport input text)
+-- bytes that are due for an input
+abbrev pub IsDue : Text → List ℕ → List ℕ → Type 0
+IsDue text input bytes = (input_refusal text input ≡ Some bytes) ⊎ ((input_refusal text input ≡ None) × IsRunOf text input bytes)

@@ -2,20 +2,21 @@
 #![tactic(auto)]
 
 mod built;
-mod channel;
-mod idle;
+mod capture;
+mod ended;
 mod input;
 mod listing;
-mod receive_controller;
-mod receive_run;
-mod receive_terminal;
-mod recorder;
+mod outcome;
 mod refusals;
 mod run;
+mod scribe;
 #[cfg(test)]
 mod tests;
+mod text;
 mod tool;
 mod words;
 
 pub use built::is_built;
+pub use ended::Ended;
+pub use text::Text;
 pub use tool::bus_tool;

@@ -1,5 +1,5 @@
 //! The commands that list a capture.
-ghost use Rattle.std.specs.Prelude.{◌≡◌, ◌≤◌, Some};
+ghost use Rattle.std.specs.Prelude.{◌≡◌, ◌≤◌, Some, None};
 ghost use Rattle.bus_line.specs.declared.cutter.TheConstants.{LAG};
 ghost use Rattle.bus_monitor.specs.Listings.{word_listing, message_listing};
 ghost use Rattle.bus_monitor.specs.Progress.{word_lines, message_lines};
@@ -12,7 +12,7 @@ use bus_outside::{Sink, Source};
 /// The command `decode`: the valid words of a capture.
 pub fn decode<S: Source, K: Sink>(source: &mut S, sink: &mut K) -> u8
     ensures { EndsListing (S.left source.old) (S.left source.new) (K.held sink.old) (K.held sink.new)
-        (S.faults source.old) (S.faults source.new) (K.faults sink.old) (K.faults sink.new) result (word_lines LAG) (word_listing LAG) }
+        (S.faults source.old) (S.faults source.new) (K.faults sink.old) (K.faults sink.new) result None (word_lines LAG) (word_listing LAG) }
 {
     let listing = list_words(source, sink);
     status_after(listing, sink)
@@ -21,7 +21,7 @@ pub fn decode<S: Source, K: Sink>(source: &mut S, sink: &mut K) -> u8
 /// The command `messages`: the messages of a capture, with how they ended.
 pub fn messages<S: Source, K: Sink>(source: &mut S, sink: &mut K) -> u8
     ensures { EndsListing (S.left source.old) (S.left source.new) (K.held sink.old) (K.held sink.new)
-        (S.faults source.old) (S.faults source.new) (K.faults sink.old) (K.faults sink.new) result (message_lines LAG) (message_listing LAG) }
+        (S.faults source.old) (S.faults source.new) (K.faults sink.old) (K.faults sink.new) result None (message_lines LAG) (message_listing LAG) }
 {
     let listing = list_messages(source, sink);
     status_after(listing, sink)

@@ -1,105 +1,141 @@
-//! The command `run`: what an input is answered with.
-ghost use Rattle.std.specs.Prelude.{◌≡◌, ℕ, ◌≤◌, ◌⊎◌, Option, Some, List, [], IfOk, IfSome, true, slice_get};
-ghost use Rattle.bus_formats.specs.Accepted.{HasKindRanges};
-ghost use Rattle.bus_formats.specs.declared.log.Attempt.{Attempt};
-ghost use Rattle.bus_tool.specs.Answers.{Answers, AnswersPlan, AnswersRefused, WroteDue};
-ghost use Rattle.bus_report.specs.Report.{report_text};
-ghost use Rattle.bus_tool.specs.Built.{is_built as is_built_plan};
+//! The commands that run a plan: what an input is answered with.
+ghost use Rattle.std.specs.Prelude.{◌≡◌, ℕ, ◌≤◌, []};
+ghost use Rattle.bus_formats.specs.Accepted.{IsAccepted};
+ghost use Rattle.bus_formats.specs.Plans.{PlanData};
+ghost use Rattle.bus_run.specs.Stands.{BusStands, FinishedStands};
+ghost use Rattle.bus_tool.specs.Answers.{Answers, AnswersPlan, AnswersRefused, AnswersRun, Wrote};
+ghost use Rattle.bus_tool.specs.Texts.{text_of};
 
 use crate::built::is_built;
-use crate::idle::run_idle;
+use crate::capture::write_capture;
+use crate::ended::Ended;
 use crate::input::LIMIT;
-use crate::receive_run::run_message;
+use crate::outcome::status_of;
 use crate::refusals::refusal_line;
-use bus_formats::{Kind, Plan, RunLog};
+use crate::text::Text;
+use bus_formats::Plan;
 use bus_outside::Sink;
 use bus_plan::{PlanError, read_plan};
 use bus_report::report;
+use bus_run::{Bus, FinishedBus};
 use bus_subsystem::Subsystem;
-use std::alloc::{AllocError, Global};
+use std::alloc::Global;
 
-/// The status with which a command answers an input that was read, after it wrote what is due.
-pub fn answer<K: Sink>(alloc: Global, input: &[u8], sink: &mut K) -> u8
-    ensures { Answers (K.held sink.old) (K.held sink.new) (K.faults sink.old) (K.faults sink.new) result input.now }
+/// How a command that writes this text ends, over an input that was read.
+pub fn answer<K: Sink>(text: Text, alloc: Global, input: &[u8], sink: &mut K) -> Ended
+    ensures { Answers (K.held sink.old) (K.held sink.new) (K.faults sink.old) (K.faults sink.new) result.status result.bus text input.now }
 {
     if input.len() > LIMIT {
         return refuse(b"input refused too-long\n", sink);
     }
     match read_plan(alloc, input) {
-        Err(PlanError::Memory(_)) => 6,
+        Err(PlanError::Memory(_)) => Ended {
+            status: 6,
+            bus: None,
+        },
         Err(PlanError::Refused(refusal)) => refuse(refusal_line(&refusal).as_bytes(), sink),
-        Ok(plan) => answer_plan(alloc, &plan, sink),
+        Ok(plan) => answer_plan(text, alloc, plan, sink),
     }
 }
 
 // Writes the line of a refusal.
-fn refuse<K: Sink>(line: &[u8], sink: &mut K) -> u8
-    ensures { AnswersRefused (K.held sink.old) (K.held sink.new) (K.faults sink.old) (K.faults sink.new) result line.now }
+fn refuse<K: Sink>(line: &[u8], sink: &mut K) -> Ended
+    ensures { AnswersRefused (K.held sink.old) (K.held sink.new) (K.faults sink.old) (K.faults sink.new) result.status result.bus line.now }
 {
     match sink.write(line) {
-        Ok(()) => 3,
-        Err(_) => 5,
+        Ok(()) => Ended {
+            status: 3,
+            bus: None,
+        },
+        Err(_) => Ended {
+            status: 5,
+            bus: None,
+        },
     }
 }
 
-fn answer_plan<K: Sink>(alloc: Global, plan: &Plan, sink: &mut K) -> u8
-    ensures { AnswersPlan (K.held sink.old) (K.held sink.new) (K.faults sink.old) (K.faults sink.new) result plan.now }
+fn answer_plan<K: Sink>(text: Text, alloc: Global, plan: Plan, sink: &mut K) -> Ended
+    requires { IsAccepted plan }
+    ensures { AnswersPlan (K.held sink.old) (K.held sink.new) (K.faults sink.old) (K.faults sink.new) result.status result.bus text plan }
 {
-    if !is_built(plan) {
+    if !is_built(text, &plan) {
         return refuse(b"plan refused 0 not-built\n", sink);
     }
-    match run(alloc, plan) {
-        Err(_) => 6,
-        Ok(log) => write_report(alloc, &log, plan, sink),
+    match text {
+        Text::Report => report_run(alloc, &plan, sink),
+        Text::Capture => capture_run(alloc, plan.without_subsystems(), sink),
+    }
+}
+
+// Runs a plan that names no subsystem, and writes its report.
+fn report_run<K: Sink>(alloc: Global, plan: &Plan, sink: &mut K) -> Ended
+    requires { IsAccepted plan.now }
+    ensures { AnswersRun (K.held sink.old) (K.held sink.new) (K.faults sink.old) (K.faults sink.new) result.status result.bus Text.Report plan.now }
+{
+    match Bus::prepare(alloc, plan) {
+        Err(_) => Ended {
+            status: 6,
+            bus: None,
+        },
+        Ok(bus) => write_report(alloc, bus.finish(), plan, sink),
+    }
+}
+
+// Runs a plan, and writes the capture of its run.
+fn capture_run<K: Sink>(alloc: Global, plan: Plan, sink: &mut K) -> Ended
+    requires { IsAccepted plan }
+    ensures { AnswersRun (K.held sink.old) (K.held sink.new) (K.faults sink.old) (K.faults sink.new) result.status result.bus Text.Capture plan }
+{
+    match Bus::prepare(alloc, &plan) {
+        Err(_) => Ended {
+            status: 6,
+            bus: None,
+        },
+        Ok(bus) => captured(bus, sink),
+    }
+}
+
+// Runs a bus, and writes the capture of its run.
+fn captured<K: Sink>(bus: Bus, sink: &mut K) -> Ended
+    requires { (plan : PlanData) × BusStands plan 0 bus }
+    ensures { (plan : PlanData) → BusStands plan 0 bus →
+        AnswersRun (K.held sink.old) (K.held sink.new) (K.faults sink.old) (K.faults sink.new) result.status result.bus Text.Capture plan }
+{
+    match write_capture(bus, sink) {
+        Ok(left) => {
+            let status = status_of(left.log());
+            Ended {
+                status,
+                bus: Some(left),
+            }
+        }
+        Err(_) => Ended {
+            status: 5,
+            bus: None,
+        },
     }
 }
 
 // Writes the report of a run without subsystems.
-fn write_report<K: Sink>(alloc: Global, log: &RunLog, plan: &Plan, sink: &mut K) -> u8
-    requires { (a : Attempt) (i : ℕ) → slice_get log.now.attempts i ≡ Some a → HasKindRanges a.kind }
-    ensures wrote { WroteDue (K.held sink.old) (K.held sink.new) (K.faults sink.old) (K.faults sink.new) result 0 (report_text log.now plan.now []) }
+fn write_report<K: Sink>(alloc: Global, bus: FinishedBus, plan: &Plan, sink: &mut K) -> Ended
+    requires accepted { IsAccepted plan.now }
+    requires ran { (t : ℕ) × FinishedStands plan.now t bus }
+    ensures wrote { (t : ℕ) → FinishedStands plan.now t bus → Wrote (K.held sink.old) (K.held sink.new) (K.faults sink.old) (K.faults sink.new)
+        result.status result.bus (text_of Text.Report plan.now t) plan.now t }
     ensures later { K.faults sink.old ≤ K.faults sink.new }
 {
     let subsystems: Vec<Box<dyn Subsystem>> = Vec::new(alloc);
-    match report(log, plan, &subsystems, sink) {
-        Ok(()) => 0,
-        Err(_) => 5,
-    }
-}
-
-// The log of the run of a plan that is built.
-fn run(alloc: Global, plan: &Plan) -> Result<RunLog, AllocError>
-    ensures { IfOk result (λ log. (a : Attempt) (i : ℕ) → slice_get log.attempts i ≡ Some a → HasKindRanges a.kind) }
-{
-    match message_of(plan) {
-        Some(message) => run_message(alloc, message),
-        None => run_idle(alloc, plan),
-    }
-}
-
-// The message of a plan that has one.
-fn message_of(plan: &Plan) -> Option<&Kind>
-    ensures { IfSome result (λ message. HasKindRanges message.now) }
-{
-    let station = plan.stations.as_slice().first()?;
-    let frame = station.frames.as_slice().first()?;
-    let item = frame.items.as_slice().first()?;
-    in_ranges(&item.kind)
-}
-
-// A receive message whose numbers are in their ranges.
-fn in_ranges(message: &Kind) -> Option<&Kind>
-    ensures { IfSome result (λ found. HasKindRanges found.now) }
-{
-    match message {
-        Kind::Receive { to, sub, words } => {
-            let count = words.words().len();
-            if *to <= 31 && 1 <= *sub && *sub <= 30 && 1 <= count && count <= 32 {
-                Some(message)
-            } else {
-                None
+    match report(bus.log(), plan, &subsystems, sink) {
+        Ok(()) => {
+            let status = status_of(bus.log());
+            Ended {
+                status,
+                bus: Some(bus),
             }
         }
-        Kind::Transmit { .. } | Kind::Relay { .. } | Kind::Mode { .. } => None,
+        Err(_) => Ended {
+            status: 5,
+            bus: None,
+        },
     }
 }

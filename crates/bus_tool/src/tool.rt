@@ -5,17 +5,19 @@ ghost use Rattle.bus_tool.specs.Due.{words_refused};
 ghost use Rattle.bus_tool.specs.Ends.{Ends, EndsRun};
 ghost use Rattle.bus_tool.specs.Meaning.{meaning};
 
+use crate::ended::Ended;
 use crate::input::{Stop, read_input};
 use crate::listing::{decode, messages};
 use crate::run::answer;
+use crate::text::Text;
 use crate::words::{Command, command_of};
 use bus_outside::{Sink, Source};
 use std::alloc::Global;
 
-/// Does what the words ask for, and answers the program's status.
+/// Does what the words ask for, and answers the program's status, with the bus whose run was written whole.
 ///
-/// The words are the command line without the program's name. 0: the input was read to its end and the whole text was written. 2: the
-/// words have no meaning, and nothing was read. 3: the input is refused; a plan was read whole, a capture to its first wrong byte, and
+/// The words are the command line without the program's name. 0: the input was read to its end and the whole text was written; of a run
+/// 1, where the last attempt of some item didn't go well. 2: the words have no meaning, and nothing was read. 3: the input is refused; a plan was read whole, a capture to its first wrong byte, and
 /// the lines of the ticks before it were written. 4: the source failed; a listing's lines so far were written, and nothing else. 5: the
 /// sink failed, and a front of the text that was due was written. 6: memory ran out, and nothing was written; never for a listing.
 pub fn bus_tool<S: Source, K: Sink>(
@@ -23,15 +25,26 @@ pub fn bus_tool<S: Source, K: Sink>(
     words: &[String],
     source: &mut S,
     sink: &mut K,
-) -> u8
+) -> Ended
     ensures { Ends (S.left source.old) (S.left source.new) (K.held sink.old) (K.held sink.new)
-        (S.faults source.old) (S.faults source.new) (K.faults sink.old) (K.faults sink.new) result (meaning (map string_bytes words.now)) }
+        (S.faults source.old) (S.faults source.new) (K.faults sink.old) (K.faults sink.new)
+        result.status result.bus (meaning (map string_bytes words.now)) }
 {
     match command_of(words) {
-        None => refuse_words(sink),
-        Some(Command::Run) => run(alloc, source, sink),
-        Some(Command::Decode) => decode(source, sink),
-        Some(Command::Messages) => messages(source, sink),
+        None => Ended {
+            status: refuse_words(sink),
+            bus: None,
+        },
+        Some(Command::Run) => run(Text::Report, alloc, source, sink),
+        Some(Command::Capture) => run(Text::Capture, alloc, source, sink),
+        Some(Command::Decode) => Ended {
+            status: decode(source, sink),
+            bus: None,
+        },
+        Some(Command::Messages) => Ended {
+            status: messages(source, sink),
+            bus: None,
+        },
     }
 }
 
@@ -45,14 +58,20 @@ fn refuse_words<K: Sink>(sink: &mut K) -> u8
     }
 }
 
-// The command `run`.
-fn run<S: Source, K: Sink>(alloc: Global, source: &mut S, sink: &mut K) -> u8
+// A command that runs a plan and writes this text of the run.
+fn run<S: Source, K: Sink>(text: Text, alloc: Global, source: &mut S, sink: &mut K) -> Ended
     ensures { EndsRun (S.left source.old) (S.left source.new) (K.held sink.old) (K.held sink.new)
-        (S.faults source.old) (S.faults source.new) (K.faults sink.old) (K.faults sink.new) result }
+        (S.faults source.old) (S.faults source.new) (K.faults sink.old) (K.faults sink.new) result.status result.bus text }
 {
     match read_input(alloc, source) {
-        Err(Stop::Fault) => 4,
-        Err(Stop::Memory) => 6,
-        Ok(input) => answer(alloc, input.as_slice(), sink),
+        Err(Stop::Fault) => Ended {
+            status: 4,
+            bus: None,
+        },
+        Err(Stop::Memory) => Ended {
+            status: 6,
+            bus: None,
+        },
+        Ok(input) => answer(text, alloc, input.as_slice(), sink),
     }
 }

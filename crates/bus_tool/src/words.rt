@@ -7,6 +7,8 @@ ghost use Rattle.bus_tool.specs.Meaning.{meaning, command_named as named};
 pub enum Command {
     /// Read a plan, run it, and write the report.
     Run,
+    /// Read a plan, run it without its subsystems, and write the capture of what both channels show.
+    Capture,
     /// Read a capture, and write the listing of its valid words.
     Decode,
     /// Read a capture, and write the listing of its messages.
@@ -28,6 +30,9 @@ fn command_named(word: &str) -> Option<Command>
 {
     if word == "run" {
         return Some(Command::Run);
+    }
+    if word == "capture" {
+        return Some(Command::Capture);
     }
     if word == "decode" {
         return Some(Command::Decode);

@@ -21,5 +21,6 @@ fn main(rt: HostRuntime) -> ExitCode {
     }
     let mut source = ReadSource::new(rt.stdin());
     let mut sink = WriteSink::new(rt.stdout());
-    ExitCode::from(bus_tool(rt.alloc(), words.as_slice(), &mut source, &mut sink))
+    let ended = bus_tool(rt.alloc(), words.as_slice(), &mut source, &mut sink);
+    ExitCode::from(ended.status)
 }

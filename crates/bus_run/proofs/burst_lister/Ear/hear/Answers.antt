@@ -1,7 +1,6 @@
-use Rattle.std.proofs.Common.{◌≡◌, ◌∷◌, ◌∙◌, sym, refl, arith, lit≤, ap, length, ◌<◌, ◌^◌}
+use Rattle.std.proofs.Common.{◌∷◌, ◌∙◌, refl, lit≤}
 use Rattle.bus_line.specs.declared.cutter.TheConstants.{LAG}
 use Rattle.bus_line.proofs.CutNow.{cut-tells}
-use Rattle.bus_run.specs.BurstListers.{EndFits, EarStands}
 use Rattle.bus_run.proofs.BurstLaws.{end-fits, ear-tells, ear-keeps}
 use Rattle.bus_run.proofs.burst_lister.Ear.hear.Goals as goal
 
@@ -12,7 +11,8 @@ follow-requires c =
 
 pub returns-clause-told : goal.returns-clause-told
 returns-clause-told c past st here =
-    c.follow.ensures.told ∙ ear-tells LAG c.args.channel c.args.self.now c.args.sample past c.args.tick c.hear-cut.result here st (c.hear-cut.ensures.cut past st.cutter)
+    c.follow.ensures.told ∙ ear-tells LAG c.args.channel c.args.self.now c.args.sample past c.args.tick c.hear-cut.result here st
+    (c.hear-cut.ensures.cut past st.cutter)
 
 pub returns-clause-stands : goal.returns-clause-stands
 returns-clause-stands c past st here =

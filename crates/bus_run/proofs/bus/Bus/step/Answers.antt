@@ -1,14 +1,13 @@
-use Rattle.std.proofs.Common.{◌≡◌, ◌≤◌, ◌<◌, ◌+◌, ◌∷◌, [], suc, ◌∙◌, List, length, ap, sym, arith, subst, add-one}
-use Rattle.bus_base.specs.declared.samples.Drive.{Drive}
+use Rattle.std.proofs.Common.{◌≡◌, ◌∷◌, [], suc, ◌∙◌, List, length, ap, sym, arith, subst, add-one}
 use Rattle.bus_base.specs.declared.samples.Pair.{Pair}
 use Rattle.bus_line.specs.declared.cutter.TheConstants.{LAG}
 use Rattle.bus_model.specs.Wire.{shown}
 use Rattle.bus_model.specs.World.{world, trace}
-use Rattle.bus_run.specs.Amounts.{most_attempts, most_ticks, most_words, most_bursts}
+use Rattle.bus_run.specs.Amounts.{most_attempts, most_words, most_bursts}
 use Rattle.bus_run.specs.Parts.{StationsStand, CableStands}
 use Rattle.bus_run.specs.Crews.{CrewStands}
 use Rattle.bus_run.specs.Monitors.{MonitorStands}
-use Rattle.bus_run.specs.Stands.{BusStands, Stands, shown_in}
+use Rattle.bus_run.specs.Stands.{BusStands}
 use Rattle.bus_run.proofs.BusLaws.{world-next, driven-next, world-length, driven-length, goes-on}
 use Rattle.bus_run.proofs.bus.Bus.step.Goals as goal
 
@@ -17,9 +16,14 @@ unfolding BusStands
 show-shown-requires c =
     let (plan, t, st, on) = c.requires in
     let small = (goes-on plan t on).small in
-    let ticks = driven-length plan t in
-    (plan, world LAG plan [] [] [] t, (trace LAG plan [] [] [] t).driven,
-    subst (λ ss. StationsStand plan ss (world LAG plan [] [] [] t)) (sym c.stations.ensures) st.crew.stations, st.cable, omega (arith, small, ticks))
+    let ticks = driven-length plan t in (
+      plan,
+      world LAG plan [] [] [] t,
+      (trace LAG plan [] [] [] t).driven,
+      subst (λ ss. StationsStand plan ss (world LAG plan [] [] [] t)) (sym c.stations.ensures) st.crew.stations,
+      st.cable,
+      omega (arith, small, ticks),
+    )
 
 pub hear-requires : goal.hear-requires
 unfolding BusStands
@@ -29,8 +33,19 @@ hear-requires c =
     let small = going.small in
     let ticks = st.ticks_are in
     let left = going.attempts_left in
-    let are = ap length st.crew.attempts_are in
-    (most_attempts plan, plan, world LAG plan [] [] [] t, st.crew, world-length plan t ∙ sym st.ticks_are, omega (arith, small, ticks), omega (arith, left, are))
+    let are = ap length st.crew.attempts_are in (
+      most_attempts plan,
+      plan,
+      world LAG plan [] [] [] t,
+      st.crew,
+      world-length plan t ∙ sym st.ticks_are,
+      omega (arith, small, ticks),
+      omega (
+        arith,
+        left,
+        are,
+      ),
+    )
 
 pub hear-requires-2 : goal.hear-requires-2
 unfolding BusStands
@@ -42,9 +57,16 @@ hear-requires-2 c =
     let words = going.words_left in
     let bursts = going.bursts_left in
     let words-are = ap length st.monitor.words_are in
-    let bursts-are = ap length st.monitor.bursts_are in
-    (most_words plan, most_bursts plan, world LAG plan [] [] [] t, st.monitor, world-length plan t ∙ sym st.ticks_are, omega (arith, small, ticks),
-    omega (arith, words, words-are), omega (arith, bursts, bursts-are))
+    let bursts-are = ap length st.monitor.bursts_are in (
+      most_words plan,
+      most_bursts plan,
+      world LAG plan [] [] [] t,
+      st.monitor,
+      world-length plan t ∙ sym st.ticks_are,
+      omega (arith, small, ticks),
+      omega (arith, words, words-are),
+      omega (arith, bursts, bursts-are),
+    )
 
 pub overflow_add-self : goal.overflow_add-self
 unfolding BusStands
@@ -69,7 +91,8 @@ returns-clause-stands c plan t st on =
     let stations : StationsStand plan c.stations.result.now past = subst (λ ss. StationsStand plan ss past) (sym c.stations.ensures) st.crew.stations in
     let here : length past ≡ c.args.self.now.ticks = world-length plan t ∙ sym st.ticks_are in
     let next : c.show-shown.result ∷ past ≡ world LAG plan [] [] [] (suc t) =
-    ap (λ p. p ∷ past) (c.show-shown.ensures.pair plan past (trace LAG plan [] [] [] t).driven stations st.cable ∙ ap (λ ds. shown plan.faults ds) (sym (driven-next plan t)))
+    ap (λ p. p ∷ past) (c.show-shown.ensures.pair plan past (trace LAG plan [] [] [] t).driven stations st.cable ∙ ap (λ ds. shown plan.faults ds) (sym
+    (driven-next plan t)))
     ∙ sym (world-next plan t) in
     record {
       crew = subst (λ p. CrewStands (most_attempts plan) plan c.hear.new.self p) next (c.hear.ensures (most_attempts plan) plan past st.crew here);
@@ -77,6 +100,7 @@ returns-clause-stands c plan t st on =
           (c.show-shown.ensures.stands plan past (trace LAG plan [] [] [] t).driven stations st.cable);
       monitor = subst (λ p. MonitorStands (most_words plan) (most_bursts plan) c.hear-2.new.self p) next
           (c.hear-2.ensures (most_words plan) (most_bursts plan) past st.monitor here);
+      ends = st.ends;
       ticks_are = add-one c.args.self.now.ticks ∙ ap suc st.ticks_are;
       most_ticks_are = st.most_ticks_are;
       most_attempts_are = st.most_attempts_are;

@@ -1,4 +1,4 @@
-use Rattle.std.proofs.Common.{◌∙◌, ap, sym, [], arith, subst}
+use Rattle.std.proofs.Common.{sym, [], arith, subst}
 use Rattle.bus_wire.specs.WireStands.{WireStands}
 use Rattle.bus_run.proofs.CableLaws.{clashes-none}
 use Rattle.bus_run.proofs.cable.Cable.new.Goals as goal

@@ -1,4 +1,4 @@
-use Rattle.std.proofs.Common.{◌≡◌, ◌≤◌, ◌<◌, ◌∷◌, [], ◌∙◌, length, sym, ap, arith, subst, List, ◌+◌, if◌then◌else◌}
+use Rattle.std.proofs.Common.{◌≡◌, ◌∷◌, [], ◌∙◌, length, sym, ap, arith, subst, List, ◌+◌, if◌then◌else◌}
 use Rattle.std.proofs.lemmas.List.{length-map}
 use Rattle.bus_base.specs.declared.samples.Channel.TheVariants.{A, B}
 use Rattle.bus_base.specs.declared.samples.Drive.{Drive}
@@ -30,10 +30,12 @@ returns-clause-stands c plan past driven st cable =
     let drives : c.deref.result.now ≡ drives_after LAG plan [] [] [] past = c.deref.ensures.value ∙ c.drive.ensures.drives plan past st in
     let before : WireStands plan.faults c.drive.new.self.wire driven = subst (λ w. WireStands plan.faults w driven) (sym c.drive.ensures.wire) cable.wire in
     record {
-      wire = subst (λ (ds : List Drive). WireStands plan.faults c.show-shown.new.self (ds ∷ driven)) drives (c.show-shown.ensures.stands plan.faults driven before);
+      wire = subst (λ (ds : List Drive). WireStands plan.faults c.show-shown.new.self (ds ∷ driven)) drives
+          (c.show-shown.ensures.stands plan.faults driven before);
       drives = ap length (c.drive.ensures.drives plan past st) ∙ length-map plan.stations (drive_after LAG plan [] [] [] past);
       few = cable.few;
-      clashes_are = c.clashes_after-self.ensures (drivers plan.faults A (drives_after LAG plan [] [] [] past ∷ driven)) (drivers plan.faults B (drives_after LAG plan [] [] [] past ∷ driven))
+      clashes_are = c.clashes_after-self.ensures (drivers plan.faults A (drives_after LAG plan [] [] [] past ∷ driven)) (drivers plan.faults B
+          (drives_after LAG plan [] [] [] past ∷ driven))
           (subst (λ (ds : List Drive). c.show-shown.result.drivers ≡ drivers plan.faults A (ds ∷ driven) ∷ drivers plan.faults B (ds ∷ driven) ∷ []) drives
           (c.show-shown.ensures.drivers plan.faults driven before))
           ∙ ap (λ n. (if is_clash plan.faults (drives_after LAG plan [] [] [] past ∷ driven) then 1 else 0) + n) (c.drive.ensures.clashes ∙ cable.clashes_are)

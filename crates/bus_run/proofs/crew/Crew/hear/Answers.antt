@@ -1,4 +1,4 @@
-use Rattle.std.proofs.Common.{◌≡◌, ◌≤◌, ◌∙◌, length, sym, arith, refl}
+use Rattle.std.proofs.Common.{◌∙◌, arith, refl}
 use Rattle.bus_run.proofs.CrewLaws.{hears-start, hears-end}
 use Rattle.bus_run.proofs.crew.Crew.hear.Goals as goal
 

@@ -1,5 +1,5 @@
-use Rattle.std.proofs.Common.{◌≡◌, ◌≤◌, ◌<◌, ◌+◌, ◌∷◌, ◌++◌, ◌∙◌, suc, length, sym, ap, arith, subst, if◌then◌else◌}
-use Rattle.std.specs.Prelude.{option_to_list, vec_len, vec_capacity}
+use Rattle.std.proofs.Common.{◌∷◌, ◌++◌, ◌∙◌, suc, sym, ap, arith, subst, if◌then◌else◌}
+use Rattle.std.specs.Prelude.{option_to_list, vec_capacity}
 use Rattle.bus_base.specs.declared.samples.Channel.TheVariants.{A, B}
 use Rattle.bus_line.specs.Channels.{both_quiet}
 use Rattle.bus_line.specs.declared.cutter.TheConstants.{LAG}
@@ -28,11 +28,14 @@ returns c most_words most_bursts past st here =
           ∙ ap (λ xs. (xs ++ option_to_list (heard_now LAG A (c.args.shown ∷ past))) ++ option_to_list (heard_now LAG B (c.args.shown ∷ past))) st.words_are
           ∙ sym (words-grow LAG c.args.shown past);
       bursts_are = c.hear_bursts.ensures.bursts past lister here
-          ∙ ap (λ v. (v.items ++ option_to_list (burst_on LAG A (c.args.shown ∷ past))) ++ option_to_list (burst_on LAG B (c.args.shown ∷ past))) c.hear_words.ensures.bursts
+          ∙ ap (λ v. (v.items ++ option_to_list (burst_on LAG A (c.args.shown ∷ past))) ++ option_to_list (burst_on LAG B
+          (c.args.shown ∷ past))) c.hear_words.ensures.bursts
           ∙ ap (λ xs. (xs ++ option_to_list (burst_on LAG A (c.args.shown ∷ past))) ++ option_to_list (burst_on LAG B (c.args.shown ∷ past))) st.bursts_are
           ∙ sym (bursts-grow LAG c.args.shown past);
       quiet_is = c.quiet_after-self.ensures
           ∙ ap (λ n. if both_quiet c.args.shown then suc n else 0) (c.hear_bursts.ensures.quiet ∙ c.hear_words.ensures.quiet ∙ st.quiet_is);
-      word_room = (let room = st.word_room in let a = ap (λ v. vec_capacity v) c.hear_bursts.ensures.words in let b = c.hear_words.ensures.room in omega (arith, room, a, b));
-      burst_room = (let room = st.burst_room in let a = c.hear_bursts.ensures.room in let b = ap (λ v. vec_capacity v) c.hear_words.ensures.bursts in omega (arith, room, a, b));
+      word_room = (let room = st.word_room in let a = ap (λ v. vec_capacity v) c.hear_bursts.ensures.words in let b = c.hear_words.ensures.room in omega
+          (arith, room, a, b));
+      burst_room = (let room = st.burst_room in let a = c.hear_bursts.ensures.room in let b = ap
+          (λ v. vec_capacity v) c.hear_words.ensures.bursts in omega (arith, room, a, b));
     }

@@ -1,0 +1,47 @@
+//! Which of the objects for subsystems stay.
+ghost use Rattle.std.specs.Prelude.{◌≡◌, ◌<◌, length, map, vec_len};
+ghost use Rattle.std.specs.List.{range_with_len};
+ghost use Rattle.bus_run.specs.Kept.{place_of as place_at, places_from, named_at, IsPicked};
+
+use bus_formats::{StationPlan, SubsystemKind};
+use bus_subsystem::Subsystem;
+
+// The place of the object of this kind and address.
+fn place_of(kind: SubsystemKind, address: usize) -> usize
+    requires { address < 31 }
+    ensures { result ≡ place_at kind address }
+{
+    match kind {
+        SubsystemKind::Recorder => address,
+        SubsystemKind::Tally => 31 + address,
+    }
+}
+
+/// The subsystem that the station with this address names, if there is one and it names any.
+pub fn named(stations: &[StationPlan], address: usize) -> Option<SubsystemKind>
+    ensures { result ≡ named_at address stations.now }
+{
+    for station in stations {
+        if usize::from(station.terminal.address) == address {
+            return station.terminal.subsystem;
+        }
+    }
+    None
+}
+
+/// Keeps the objects that the addresses 0 to 30 name, in order of address, and drops the others. Places 0 to 30 are the recorders of these
+/// addresses, and 31 to 61 the tallies. It takes no memory.
+pub fn keep_named(subsystems: &mut Vec<Box<dyn Subsystem>>, named: &[Option<SubsystemKind>])
+    requires all { vec_len subsystems.old ≡ 62 }
+    requires named { length named.now ≡ 31 }
+    ensures { IsPicked subsystems.old.items (places_from 0 named.now) subsystems.new.items }
+{
+    let mut kept = 0;
+    for address in 0..31 {
+        if let Some(kind) = named[address] {
+            subsystems.swap(kept, place_of(kind, address));
+            kept += 1;
+        }
+    }
+    subsystems.truncate(kept);
+}

@@ -1,0 +1,208 @@
+-- A run comes to an end, and its capture is written up to there.
+use Rattle.std.proofs.Common.{◌≡◌, ℕ, zero, suc, ◌+◌, ◌-◌, ◌<◌, ◌≤◌, Bool, true, false, ◌||◌, List, [], ◌∷◌, ◌++◌, reverse, refl, sym, ◌∙◌, ap, subst, arith, append_assoc, append-nil, Option, Some, None, Result, Ok, Err, inl, inr}
+use Rattle.std.specs.Prelude.{nat_le, IsErr}
+use Rattle.std.proofs.lemmas.Option.{same_Some}
+use Rattle.std.proofs.lemmas.Bool.{cases_lt}
+use Rattle.std.proofs.lemmas.List.{reverse-append}
+use Rattle.std.proofs.lemmas.Bool.Decides.{nat_tests}
+use Rattle.std.specs.Io.KnownBytes.{Appends}
+use Rattle.bus_base.specs.declared.samples.Pair.{Pair}
+use Rattle.bus_capture.specs.Captures.{ticks_text, header, capture_text}
+use Rattle.bus_formats.specs.Plans.{PlanData}
+use Rattle.bus_line.specs.declared.cutter.TheConstants.{LAG}
+use Rattle.bus_model.specs.World.{world, trace, ticks_on, run_is_over}
+use Rattle.bus_outside.specs.Causes.{GrowsByFront, WriteAdds}
+use Rattle.bus_outside.specs.declared.streams.Failed.{Failed}
+use Rattle.bus_outside.proofs.Writes.{appends_then, front_then}
+use Rattle.bus_run.specs.Amounts.{most_ticks}
+use Rattle.bus_run.specs.Ends.{has_ended, is_outgrown}
+use Rattle.bus_run.specs.Stands.{BusStands, EndsAfter, FinishedStands, shown_in}
+use Rattle.bus_run.specs.declared.bus.Bus.{Bus}
+use Rattle.bus_run.specs.declared.finished.FinishedBus.{FinishedBus}
+use Rattle.bus_tool.specs.Captured.{Captured, Captures}
+use Rattle.bus_tool.specs.Scribes.{begun_of, Stands, ScribeStands, TookTick}
+use Rattle.bus_tool.specs.declared.scribe.Scribe.{Scribe}
+use Rattle.bus_tool.proofs.Scribing.{whole-text}
+
+-- ---- the run
+
+-- the end of a run that goes on here is later
+pub one-end : (plan : PlanData) (t u : ℕ) → EndsAfter plan t u → has_ended plan t ≡ true → u ≡ t
+one-end plan t u ends here = elim (cases_lt t u) [
+  | inl more ↦ let no : true ≡ false = sym here ∙ ends.before t (omega arith) more in cc
+  | inr none ↦ let later = ends.later in omega (arith, none, later)
+]
+
+ends-at-bound : (plan : PlanData) (t : ℕ) → most_ticks plan ≤ t → has_ended plan t ≡ true
+unfolding has_ended
+ends-at-bound plan t past = let test : nat_le (most_ticks plan) t ≡ true = grind (arith, nat_tests, past) in rw test refl
+
+-- one tick more that doesn't end it
+more-before : (plan : PlanData) (t : ℕ) → ((i : ℕ) → 0 ≤ i → i < t → has_ended plan i ≡ false) → has_ended plan t ≡ false →
+    (i : ℕ) → 0 ≤ i → i < suc t → has_ended plan i ≡ false
+more-before plan t before on i least within = elim (cases_lt i t) [
+  | inl earlier ↦ before i least earlier
+  | inr here ↦ let is : i ≡ t = omega (arith, here, within) in rw is on
+]
+
+at-once : (plan : PlanData) (t : ℕ) → ((i : ℕ) → 0 ≤ i → i < t → has_ended plan i ≡ false) → has_ended plan t ≡ true → (m : ℕ) × EndsAfter plan 0 (t + m)
+at-once plan t before is = let same : t + 0 ≡ t = omega arith in (0, rw same record { later = omega arith; before = before; ended = is })
+
+or-later : (plan : PlanData) (t : ℕ) (test : Bool) → ((i : ℕ) → 0 ≤ i → i < t → has_ended plan i ≡ false) → has_ended plan t ≡ test →
+    (has_ended plan t ≡ false → (m : ℕ) × EndsAfter plan 0 (suc t + m)) → (m : ℕ) × EndsAfter plan 0 (t + m)
+or-later plan t true before is later = at-once plan t before is
+or-later plan t false before is later =
+    let (m, ends) = later is in
+    let same : t + suc m ≡ suc t + m = omega arith in
+    (suc m, rw same ends)
+
+-- a run of which so many ticks went on ends in some tick after them
+pub some-end : (plan : PlanData) (n t : ℕ) → most_ticks plan ≤ t + n → ((i : ℕ) → 0 ≤ i → i < t → has_ended plan i ≡ false) →
+    (m : ℕ) × EndsAfter plan 0 (t + m)
+some-end plan zero t bound before = at-once plan t before (ends-at-bound plan t (omega (arith, bound)))
+some-end plan (suc n) t bound before =
+    or-later plan t (has_ended plan t) before refl (λ on. some-end plan n (suc t) (omega (arith, bound)) (more-before plan t before on))
+
+-- the ticks before others are the older ones of a world
+older : (plan : PlanData) (t n : ℕ) → (newer : List Pair) × (world LAG plan [] [] [] (t + n) ≡ newer ++ world LAG plan [] [] [] t)
+unfolding ticks_on
+older plan t zero = let same : t + 0 ≡ t = omega arith in ([], rw same refl)
+older plan t (suc n) =
+    let (newer, is) = older plan t n in
+    let same : t + suc n ≡ suc (t + n) = omega arith in
+    (shown_in plan (t + n) ∷ newer, rw same (ap (λ l. shown_in plan (t + n) ∷ l) is))
+
+-- what was written so far is a front of the capture of the whole run
+pub front-of : (plan : PlanData) (t m : ℕ) (scribe : Scribe) (text : List ℕ) → ScribeStands scribe (world LAG plan [] [] [] t) text →
+    (rest : List ℕ) × (capture_text (world LAG plan [] [] [] (t + m)) ≡ (header ++ text) ++ rest)
+unfolding ScribeStands capture_text
+front-of plan t m scribe text st =
+    let (newer, is) = older plan t m in
+    let turned : reverse (world LAG plan [] [] [] (t + m)) ≡ (st.lines ++ begun_of scribe) ++ reverse newer =
+    ap reverse is ∙ reverse-append newer (world LAG plan [] [] [] t) ∙ ap (λ l. l ++ reverse newer) st.ticks in
+    let rest = ticks_text 0 (begun_of scribe ++ reverse newer) in (
+      rest,
+      ap (λ l. header ++ ticks_text 0 l) (turned ∙ append_assoc st.lines (begun_of scribe) (reverse newer))
+          ∙ ap (λ l. header ++ l) (st.written (begun_of scribe ++ reverse newer)) ∙ sym (append_assoc header text rest),
+    )
+
+failed : (P : Result FinishedBus Failed → Type 0) (r : Result FinishedBus Failed) → IsErr r → ((e : Failed) → P (Err e)) → P r
+failed P (Ok left) is f = (let no : false ≡ true = is in cc)
+failed P (Err e) is f = f e
+
+-- nothing was added
+pub keeps : (held : Option (List ℕ)) → Appends held held []
+keeps None = tt
+keeps (Some bytes) = sym (append-nil bytes)
+
+-- a write of the next tick failed
+pub fails-taking : {T : Type 0} (plan : PlanData) (held0 held1 held2 : Option (List ℕ)) (bus : Bus) (scribe scribe' : Scribe) (e : Failed) (r : Result FinishedBus Failed)
+    (so : Captures plan held0 held1 bus scribe) → IsErr r → has_ended plan so.ticks ≡ false →
+    TookTick {T = T} {E = Failed} held1 held2 (Err e) scribe' (world LAG plan [] [] [] (suc so.ticks)) so.text → Captured plan held0 held2 r
+fails-taking plan held0 held1 held2 bus scribe scribe' e r so is on took =
+    let (m, ends) = some-end plan (most_ticks plan) (suc so.ticks) (omega arith) (more-before plan so.ticks so.before on) in
+    let (rest, seen) = front-of plan (suc so.ticks) m scribe' (so.text ++ took.piece) took.stands in
+    let whole : capture_text (world LAG plan [] [] [] (suc so.ticks + m)) ≡ (header ++ so.text) ++ (took.piece ++ rest) =
+    seen ∙ ap (λ l. l ++ rest) (sym (append_assoc header so.text took.piece)) ∙ append_assoc (header ++ so.text) took.piece rest in
+    failed (Captured plan held0 held2) r is (λ _. record {
+      ticks = suc so.ticks + m;
+      ends = ends;
+      wrote = rw whole (front_then held0 held1 held2 (header ++ so.text) took.piece rest so.written took.wrote);
+    })
+
+-- a write of the header failed
+pub fails-beginning : (plan : PlanData) (held0 held1 : Option (List ℕ)) (r : Result FinishedBus Failed) → IsErr r → GrowsByFront held0 held1 header →
+    Captured plan held0 held1 r
+unfolding capture_text
+fails-beginning plan held0 held1 r is front =
+    let (m, ends) = some-end plan (most_ticks plan) 0 (omega arith) (λ i least within. absurd (omega (arith, within))) in
+    failed (Captured plan held0 held1) r is (λ _. record {
+      ticks = 0 + m;
+      ends = ends;
+      wrote = front_then held0 held0 held1 [] header (ticks_text 0 (reverse (world LAG plan [] [] [] (0 + m)))) (keeps held0) front;
+    })
+
+-- a write of the last line failed
+pub fails-ending : (plan : PlanData) (held0 held1 held2 : Option (List ℕ)) (bus : Bus) (scribe : Scribe) (r : Result FinishedBus Failed)
+    (so : Captures plan held0 held1 bus scribe) → IsErr r → has_ended plan so.ticks ≡ true → GrowsByFront held1 held2 (ticks_text 0 (begun_of scribe)) →
+    Captured plan held0 held2 r
+fails-ending plan held0 held1 held2 bus scribe r so is here front =
+    let text = ticks_text 0 (begun_of scribe) in
+    let whole : capture_text (world LAG plan [] [] [] so.ticks) ≡ (header ++ so.text) ++ (text ++ []) =
+    whole-text scribe (world LAG plan [] [] [] so.ticks) so.text so.lines ∙ ap (λ l. (header ++ so.text) ++ l) (sym (append-nil text)) in
+    failed (Captured plan held0 held2) r is (λ _. record {
+      ticks = so.ticks;
+      ends = record { later = omega arith; before = so.before; ended = here };
+      wrote = rw whole (front_then held0 held1 held2 (header ++ so.text) text [] so.written front);
+    })
+
+-- all was written
+pub ends-whole : (plan : PlanData) (held0 held1 held2 : Option (List ℕ)) (bus : Bus) (scribe : Scribe) (left : FinishedBus)
+    (so : Captures plan held0 held1 bus scribe) → has_ended plan so.ticks ≡ true → Appends held1 held2 (ticks_text 0 (begun_of scribe)) →
+    ((u : ℕ) × EndsAfter plan so.ticks u × FinishedStands plan u left) → Captured {E = Failed} plan held0 held2 (Ok left)
+ends-whole plan held0 held1 held2 bus scribe left so here added finished =
+    let text = ticks_text 0 (begun_of scribe) in
+    let whole : capture_text (world LAG plan [] [] [] so.ticks) ≡ (header ++ so.text) ++ text =
+    whole-text scribe (world LAG plan [] [] [] so.ticks) so.text so.lines in
+    let same : finished.0 ≡ so.ticks = one-end plan so.ticks finished.0 finished.1 here in
+    record {
+      ticks = so.ticks;
+      ends = record { later = omega arith; before = so.before; ended = here };
+      wrote = (rw same at finished.2, rw whole (appends_then held0 held1 held2 (header ++ so.text) text so.written added));
+    }
+
+-- the header was written, and no tick ran
+pub begins-capture : (plan : PlanData) (held0 held1 : Option (List ℕ)) (bus : Bus) (scribe : Scribe) → BusStands plan 0 bus → ScribeStands scribe [] [] →
+    Appends held0 held1 header → Captures plan held0 held1 bus scribe
+unfolding ticks_on
+begins-capture plan held0 held1 bus scribe stands lines written = record {
+  ticks = 0;
+  stands = stands;
+  before = λ i least within. absurd (omega (arith, within));
+  text = [];
+  lines = lines;
+  written = subst (λ l. Appends held0 held1 l) (sym (append-nil header)) written;
+}
+
+-- a tick was written
+pub goes-on-capture : {T : Type 0} (plan : PlanData) (held0 held1 held2 : Option (List ℕ)) (bus bus' : Bus) (scribe scribe' : Scribe) (done : T)
+    (so : Captures plan held0 held1 bus scribe) → has_ended plan so.ticks ≡ false → BusStands plan (suc so.ticks) bus' →
+    TookTick {T = T} {E = Failed} held1 held2 (Ok done) scribe' (world LAG plan [] [] [] (suc so.ticks)) so.text → Captures plan held0 held2 bus' scribe'
+goes-on-capture plan held0 held1 held2 bus bus' scribe scribe' done so on stands took = record {
+  ticks = suc so.ticks;
+  stands = stands;
+  before = more-before plan so.ticks so.before on;
+  text = so.text ++ took.piece;
+  lines = took.stands;
+  written = subst (λ l. Appends held0 held2 l) (append_assoc header so.text took.piece)
+      (appends_then held0 held1 held2 (header ++ so.text) took.piece so.written took.wrote);
+}
+
+-- ---- one turn
+
+-- a tick that was answered is the next one of the run
+pub tick-ran : (plan : PlanData) (t : ℕ) (bus bus' : Bus) (result : Option Pair) (shown : Pair) → result ≡ Some shown →
+    (has_ended plan t ≡ true → (result ≡ None) × (bus' ≡ bus)) → (has_ended plan t ≡ false → (result ≡ Some (shown_in plan t)) × BusStands plan (suc t) bus') →
+    (has_ended plan t ≡ false) × (shown ≡ shown_in plan t) × BusStands plan (suc t) bus'
+tick-ran plan t bus bus' result shown is ended runs = go (has_ended plan t) refl
+  where
+    go : (test : Bool) → has_ended plan t ≡ test → (has_ended plan t ≡ false) × (shown ≡ shown_in plan t) × BusStands plan (suc t) bus'
+    go true here = (let no : Some shown ≡ None = sym is ∙ (ended here).0 in cc)
+    go false on = (on, same_Some shown (shown_in plan t) (sym is ∙ (runs on).0), (runs on).1)
+
+-- and where none was, the run has ended
+pub tick-ended : (plan : PlanData) (t : ℕ) (bus bus' : Bus) (result : Option Pair) → result ≡ None →
+    (has_ended plan t ≡ true → (result ≡ None) × (bus' ≡ bus)) → (has_ended plan t ≡ false → (result ≡ Some (shown_in plan t)) × BusStands plan (suc t) bus') →
+    (has_ended plan t ≡ true) × (bus' ≡ bus)
+tick-ended plan t bus bus' result is ended runs = go (has_ended plan t) refl
+  where
+    go : (test : Bool) → has_ended plan t ≡ test → (has_ended plan t ≡ true) × (bus' ≡ bus)
+    go true here = (here, (ended here).1)
+    go false on = (let no : Some (shown_in plan t) ≡ None = sym (runs on).0 ∙ is in cc)
+
+-- a scribe that took a tick shown in this plan's world stands for one tick more
+pub took-next : {T E : Type 0} (plan : PlanData) (t : ℕ) (held0 held1 : Option (List ℕ)) (result : Result T E) (scribe : Scribe) (shown : Pair) (text : List ℕ) →
+    shown ≡ shown_in plan t → TookTick held0 held1 result scribe (shown ∷ world LAG plan [] [] [] t) text →
+    TookTick held0 held1 result scribe (world LAG plan [] [] [] (suc t)) text
+unfolding ticks_on
+took-next plan t held0 held1 result scribe shown text is took = rw is at took

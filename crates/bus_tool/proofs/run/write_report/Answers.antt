@@ -1,0 +1,18 @@
+use Rattle.std.proofs.Common.{refl, ap, ◌∙◌, inl}
+use Rattle.bus_tool.specs.Texts.{status_of}
+use Rattle.bus_tool.proofs.Answering.{same-report}
+use Rattle.bus_tool.proofs.Ranges.{log-fits}
+use Rattle.bus_tool.proofs.run.write_report.Goals as goal
+
+pub report-requires : goal.report-requires
+report-requires g c a i is =
+    log-fits c.args.plan.now c.requires.ran.0 a i c.requires.accepted (rw (c.log.ensures c.args.plan.now c.requires.ran.0 c.requires.ran.1) at is)
+
+pub returns-in-Ok-clause-wrote : goal.returns-in-Ok-clause-wrote
+returns-in-Ok-clause-wrote g c t st = inl record {
+  left = c.args.bus;
+  has = refl;
+  stands = st;
+  status_is = c.status_of-status.ensures ∙ ap status_of (c.log-in-Ok.ensures c.args.plan.now t st);
+  written = same-report _ _ _ _ c.args.plan.now _ _ c.new-subsystems.ensures.items (c.log.ensures c.args.plan.now t st) c.in-Ok.ensures.bytes;
+}

@@ -1,0 +1,28 @@
+-- For which ticks a writer of a capture stands, and which text was written of them.
+use Rattle.std.specs.Prelude.{◌≡◌, ℕ, ◌<◌, List, ◌∷◌, ◌++◌, length, reverse, take, Option, Result}
+use Rattle.bus_base.specs.declared.samples.Pair.{Pair}
+use Rattle.bus_capture.specs.Captures.{ticks_text}
+use Rattle.bus_outside.specs.Causes.{WriteAdds}
+use Rattle.bus_tool.specs.declared.scribe.Scribe.{Scribe}
+
+-- the ticks of the line that is begun
+abbrev pub begun_of : Scribe → List Pair
+begun_of scribe = take scribe.begun scribe.line
+
+-- the ticks in their order are those of the lines that were written and those of the line that is begun
+pub record Stands (scribe : Scribe) (past : List Pair) (text : List ℕ) : Type 0 where
+  pub long : length scribe.line ≡ 64
+  pub few : scribe.begun < 64
+  pub lines : List Pair
+  pub ticks : reverse past ≡ lines ++ begun_of scribe
+  pub written : (later : List Pair) → ticks_text 0 (lines ++ later) ≡ text ++ ticks_text 0 later
+
+-- the writer stands for what the channels showed, and wrote this text of it, the header left out
+unfoldable pub ScribeStands : Scribe → List Pair → List ℕ → Type 0
+ScribeStands scribe past text = Stands scribe past text
+
+-- a tick was taken, and a piece of text was written, or a front of it where the sink failed
+pub record TookTick {T E : Type 0} (held0 held1 : Option (List ℕ)) (result : Result T E) (scribe : Scribe) (past : List Pair) (text : List ℕ) : Type 0 where
+  pub piece : List ℕ
+  pub wrote : WriteAdds held0 held1 result piece
+  pub stands : ScribeStands scribe past (text ++ piece)
