@@ -7,8 +7,11 @@ pub mod Closing
 pub mod Over
 pub mod Unanswered
 pub mod Pausing
+pub mod StaysSettled
 pub mod Beginning
 pub mod Answering
 pub mod Waiting
 pub mod Answered
+pub mod Awaiting
 pub mod Owing
+pub mod ComesDue

@@ -1,22 +1,19 @@
 -- After a command that one terminal is to answer the world is silent, until that answer is due.
-use Rattle.std.proofs.Common.{◌≡◌, ◌≢◌, ◌⊎◌, inl, inr, ℕ, zero, suc, ◌+◌, ◌*◌, ◌<◌, ◌≤◌, Bool, true, false, List, [], ◌∷◌, ◌++◌, length, Option, Some, None, refl, sym, ap, ◌∙◌, subst, arith, length-append}
+use Rattle.std.proofs.Common.{◌≡◌, ◌≢◌, inl, inr, ℕ, suc, ◌+◌, ◌*◌, ◌<◌, ◌≤◌, true, false, List, ◌++◌, length, Some, None, sym, ap, ◌∙◌, subst, arith, length-append}
 use Rattle.std.proofs.lemmas.Bool.{cases_eq, true≢false}
 use Rattle.std.proofs.lemmas.Option.{same_Some, none-some}
-use Rattle.std.specs.Prelude.{slice_get, not, nat_lt, if◌then◌else◌}
+use Rattle.std.specs.Prelude.{slice_get, not}
 use Rattle.bus_base.specs.Samples.{other_of, same_channel}
 use Rattle.bus_base.specs.declared.samples.Channel.{Channel}
 use Rattle.bus_base.specs.declared.samples.Channel.TheVariants.{A, B}
 use Rattle.bus_base.specs.declared.samples.Drive.{Drive}
 use Rattle.bus_base.specs.declared.samples.Drive.TheVariants.{Silent}
 use Rattle.bus_base.specs.declared.samples.Pair.{Pair}
-use Rattle.bus_base.specs.declared.samples.Part.TheVariants.{Command, First}
 use Rattle.bus_base.specs.declared.samples.Sample.{Sample}
-use Rattle.bus_base.specs.declared.samples.Sample.TheVariants.{Quiet}
 use Rattle.bus_words.specs.declared.word.Word.{Word}
-use Rattle.bus_line.specs.Past.{Burst, quiet_ticks, runs, end_of, rest_of, heard_or_now, first_heard}
+use Rattle.bus_line.specs.Past.{Burst, quiet_ticks, runs, end_of, rest_of}
 use Rattle.bus_line.specs.Channels.{on_channel}
 use Rattle.bus_line.proofs.ChannelLaws.{on-append}
-use Rattle.bus_line.proofs.EndLaws.{end_since-later}
 use Rattle.bus_formats.specs.Forms.{answers_of, command_words}
 use Rattle.bus_formats.specs.Plans.{TerminalData, StationData, PlanData}
 use Rattle.bus_formats.specs.Times.{no_response}
@@ -24,21 +21,20 @@ use Rattle.bus_formats.specs.declared.fault.Hit.{Hit}
 use Rattle.bus_formats.specs.declared.form.Shape.{Shape}
 use Rattle.bus_model.specs.Memory.{TimedLoad}
 use Rattle.bus_model.specs.Orders.{Obeyed, Order, last_order, owes, due_after}
-use Rattle.bus_model.specs.Hearing.{Moment, Hearing, heard_on}
+use Rattle.bus_model.specs.Hearing.{Hearing, heard_on}
 use Rattle.bus_model.specs.Standing.{Standing, mark_on, ignored_from, is_owed, is_promise, superseded, promised_on}
-use Rattle.bus_model.specs.Starts.{Entry, starts, has_items}
-use Rattle.bus_model.specs.Terminal.{standing, standing_after}
-use Rattle.bus_model.specs.Strikes.{added_by}
+use Rattle.bus_model.specs.Starts.{starts, has_items}
+use Rattle.bus_model.specs.Terminal.{standing_after}
 use Rattle.bus_model.specs.Transmissions.{drive_or, station_drive}
 use Rattle.bus_model.specs.Attempts.{Begun}
 use Rattle.bus_model.specs.Course.{Course}
-use Rattle.bus_model.specs.Control.{OutsideTake, StationSoFar, yielded_in, outside_takes, course_after, hearing_after, so_far}
-use Rattle.bus_model.specs.World.{Trace, trace, is_present, drives_after, ticks_on}
+use Rattle.bus_model.specs.Control.{OutsideTake, StationSoFar, yielded_in, course_after, hearing_after}
+use Rattle.bus_model.specs.World.{Trace, is_present, drives_after, ticks_on}
 use Rattle.bus_law_line.specs.Senders.{IsSpent, LeftAlone}
 use Rattle.bus_law_line.proofs.Sent.{left-spent}
 use Rattle.bus_law_stations.specs.Silence.{quiet_pairs, quiet_moments, AwaitsFirst, NothingStarts, StationRests}
 use Rattle.bus_law_stations.specs.Legs.{BeginsAnswer, obeyed_in, after_command}
-use Rattle.bus_law_stations.specs.Messages.{BeginsMessage, message_begun, with_running}
+use Rattle.bus_law_stations.specs.Messages.{with_running}
 use Rattle.bus_law_stations.specs.Turns.{moments_of}
 use Rattle.bus_law_stations.proofs.LegTicks.{heard-append, heeded-later}
 use Rattle.bus_law_stations.proofs.Ready.{three-first}
@@ -46,36 +42,14 @@ use Rattle.bus_law_stations.proofs.Resting.{heard-quiet, rests-quiet}
 use Rattle.bus_law_stations.proofs.StillController.{pairs-long}
 use Rattle.bus_law_stations.proofs.StillStation.{still-so-far, still-after, still-terminal, still-quiet}
 use Rattle.bus_law_messages.specs.Settled.{IsServing, Settled, NoneTakes}
-use Rattle.bus_law_messages.specs.Commands.{LeavesWhole}
 use Rattle.bus_law_messages.specs.Ends.{burst_sent, HeardCommand, CommandOver}
 use Rattle.bus_law_messages.specs.Answers.{IsWaiting, IsAnswering, AnswerDue, LeavesNothing}
 use Rattle.bus_law_messages.proofs.Listening.{moments-shown}
-use Rattle.bus_law_messages.proofs.Sending.{place-silent, place-drives, shown-long}
-use Rattle.bus_law_messages.proofs.Over.{over-at}
+use Rattle.bus_law_messages.proofs.Sending.{place-silent, place-drives}
 use Rattle.bus_law_messages.proofs.Heard.{hearing-long}
-use Rattle.bus_law_messages.proofs.Unanswered.{first-silent, rests-both, serving-again, trace-later}
+use Rattle.bus_law_messages.proofs.Unanswered.{first-silent, rests-both, serving-again}
+use Rattle.bus_law_messages.proofs.Awaiting.{awaits-quiet}
 use Rattle.bus_law_messages.proofs.Pausing.{on-quiet, same-course, holder-silent, serving-still, serving-quiet, paused, undriven-still}
-
--- ---- a message that waits goes on waiting
-
-heard-not : (b : Bool) (o : Option ℕ) → o ≡ None → (if b then None else o) ≡ None
-heard-not true o none = refl
-heard-not false o none = none
-
-unheard-quiet : (n : ℕ) (past : List Sample) (e : ℕ) → first_heard past e ≡ None → first_heard (quiet_ticks n ++ past) e ≡ None
-unfolding first_heard
-unheard-quiet zero past e none = none
-unheard-quiet (suc n) past e none =
-    let xs = quiet_ticks n ++ past in
-    heard-not (nat_lt (length xs) e) (heard_or_now Quiet (length xs) (first_heard xs e)) (ap (heard_or_now Quiet (length xs)) (unheard-quiet n past e none))
-
-awaits-quiet : (k : ℕ) (begun : Begun) (n : ℕ) (past : List Sample) (e : ℕ) → AwaitsFirst k begun past e → AwaitsFirst k begun (quiet_ticks n ++ past) e
-awaits-quiet k begun n past e w = record {
-  ended = end_since-later k (quiet_ticks n) past begun.start e w.ended;
-  shape = w.shape;
-  expects = w.expects;
-  silent = unheard-quiet n past e w.silent;
-}
 
 module _ (k : ℕ) (plan : PlanData) (loads : List TimedLoad) (outside : List OutsideTake) (absent : List ℕ) (before : Trace) (place : ℕ)
     (holder : StationData) (begun : Begun) (hits : List Hit) (ticks : List Pair) (sent silent : List (List Drive))
@@ -308,55 +282,3 @@ module _ (k : ℕ) (plan : PlanData) (loads : List TimedLoad) (outside : List Ou
       × ((ticks_on k plan loads outside absent mid n ≡ record { shown = quiet_pairs n ++ mid.shown; driven = pause ++ mid.driven })
       × ((d : Channel) → LeftAlone plan.faults d mid.driven pause))
   pauses-then = paused k plan loads outside absent mid n mid-spent all-silent n (omega arith)
-
--- from the settled moment in which the message starts to the one in which its answer is due
-pub due-at : (k : ℕ) (plan : PlanData) (loads : List TimedLoad) (outside : List OutsideTake) (absent : List ℕ) (t place : ℕ) (holder : StationData)
-    (entry : Entry) (hits : List Hit) (shape : Shape) (answerer : ℕ) (answering : StationData) (words : List Word) (order : Order) (n : ℕ) → k < 24 →
-    let before : Trace = trace k plan loads outside absent t in
-    let c : Course = course_after k holder (starts plan holder) loads outside before.shown in
-    let begun : Begun = message_begun c entry t in
-    let burst : Burst = burst_sent t hits (command_words entry.item.kind) in
-    let over : ℕ = 40 * length (command_words entry.item.kind) + suc k in
-    let after : Trace = trace k plan loads outside absent (t + over + n) in
-    let serving : Course = course_after k answering (starts plan answering) loads outside before.shown in
-    let s : Standing = standing_after k answering.terminal loads (hearing_after k answering (starts plan answering) loads outside before.shown) in
-    Settled k plan loads outside absent before place holder → BeginsMessage c before.shown entry →
-    (answers_of entry.item.kind).first ≡ Some shape → entry.item.abandon ≡ None → NoneTakes k plan loads outside place t (t + over + n) →
-    LeavesWhole plan.faults Command before.driven hits (command_words entry.item.kind) → added_by hits ≡ 0 →
-    answerer ≢ place → slice_get plan.stations answerer ≡ Some answering → is_present absent answering ≡ true →
-    last_order answering.terminal.address burst.slots ≡ Some order →
-    (obeyed_in answering.terminal loads (end_of burst + k) s begun.state.channel order (rest_of burst) (has_items serving.left)).duty ≡ owes words false →
-    LeavesNothing k plan loads outside absent before.shown place answerer begun.state.channel burst →
-    end_of burst + suc k + n ≡ due_after answering.terminal (end_of burst) → suc k + n ≤ no_response →
-    (ticks : List Pair) × (sent : List (List Drive)) × (silent : List (List Drive))
-    × CommandOver k plan loads outside absent before place holder begun hits ticks sent silent
-    × (after.shown ≡ quiet_pairs n ++ (ticks ++ before.shown))
-    × AnswerDue k plan loads outside absent after place holder begun (end_of burst) answerer answering words
-due-at k plan loads outside absent t place holder entry hits shape answerer answering words order n small settled begins expects kept stays whole added apart
-    there present last owed nothing due prompt =
-    let before : Trace = trace k plan loads outside absent t in
-    let begun : Begun = message_begun (course_after k holder (starts plan holder) loads outside before.shown) entry t in
-    let long : length before.shown ≡ t = shown-long k plan loads outside absent t in
-    let over : ℕ = 40 * length (command_words entry.item.kind) + suc k in
-    let first : NoneTakes k plan loads outside place t (t + (40 * length (command_words entry.item.kind) + suc k)) =
-    λ other station here away tick low high. stays other station here away tick low (omega (arith, high)) in
-    let so = over-at k plan loads outside absent t place holder entry hits small settled begins first whole added in
-    let count : length (so.0 ++ before.shown) ≡ length so.0 + length before.shown = length-append so.0 before.shown in
-    let then_stays : NoneTakes k plan loads outside place (length (so.0 ++ before.shown)) (length (so.0 ++ before.shown) + n) =
-    λ other station here away tick low high. stays other station here away tick (omega (arith, low, count, long))
-    (omega (arith, high, count, long, so.3.ends.many)) in
-    let p = pauses-then k plan loads outside absent before place holder begun hits so.0 so.1 so.2 long settled so.3 shape expects kept answerer answering words
-    apart there present order last owed nothing n due prompt then_stays in
-    let is = comes-due k plan loads outside absent before place holder begun hits so.0 so.1 so.2 long settled so.3 shape expects kept answerer answering words
-    apart there present order last owed nothing n due prompt then_stays p.0 p.1.1 in
-    let later = sym (trace-later k plan loads outside absent (t + over) n)
-    ∙ ap (λ tr. ticks_on k plan loads outside absent tr n) (sym (trace-later k plan loads outside absent t over) ∙ so.3.ends.world)
-    ∙ p.1.0 in (
-      so.0,
-      so.1,
-      so.2,
-      so.3,
-      ap (λ (tr : Trace). tr.shown) later,
-      subst (λ tr. AnswerDue k plan loads outside absent tr place holder begun (end_of (burst_sent t hits (command_words entry.item.kind))) answerer answering words)
-          (sym later) is,
-    )

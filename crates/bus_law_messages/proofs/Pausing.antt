@@ -1,6 +1,6 @@
 -- Silence: from a settled moment nothing happens until the next message starts, and every moment until then is settled.
-use Rattle.std.proofs.Common.{◌≡◌, ◌≢◌, inl, inr, ℕ, zero, suc, ◌+◌, ◌-◌, ◌<◌, ◌≤◌, Bool, true, false, List, [], ◌∷◌, ◌++◌, length, refl, sym, ap, ◌∙◌, subst, arith}
-use Rattle.std.proofs.lemmas.Bool.{cases_eq, true≢false}
+use Rattle.std.proofs.Common.{◌≡◌, inr, ℕ, zero, suc, ◌+◌, ◌-◌, ◌<◌, ◌≤◌, Bool, true, false, List, [], ◌∷◌, ◌++◌, length, refl, sym, ap, ◌∙◌, subst, arith}
+use Rattle.std.proofs.lemmas.Bool.{true≢false}
 use Rattle.std.proofs.lemmas.Option.{none-some}
 use Rattle.std.specs.Prelude.{None, not}
 use Rattle.bus_base.specs.Samples.{sample_on, same_channel}
@@ -15,18 +15,16 @@ use Rattle.bus_line.specs.Channels.{on_channel, quiet_both}
 use Rattle.bus_formats.specs.Plans.{StationData, PlanData}
 use Rattle.bus_formats.specs.declared.fault.Fault.{Fault}
 use Rattle.bus_model.specs.Memory.{TimedLoad}
-use Rattle.bus_model.specs.Starts.{starts}
 use Rattle.bus_model.specs.Hearing.{heard_on}
 use Rattle.bus_model.specs.Standing.{Standing, superseded, is_promise, promised_on}
 use Rattle.bus_model.specs.Terminal.{standing_after}
-use Rattle.bus_model.specs.Transmissions.{drives_on, drive_or, station_drive, newest_drives}
+use Rattle.bus_model.specs.Transmissions.{drives_on, station_drive, newest_drives}
 use Rattle.bus_model.specs.Wire.{samples_on, shown}
 use Rattle.bus_model.specs.Course.{Course, quiet_from}
 use Rattle.bus_model.specs.Control.{OutsideTake, StationSoFar, yielded_in, outside_takes, so_far, course_after, hearing_after, drives_next}
-use Rattle.bus_model.specs.World.{Trace, trace, drives_after, next_tick, ticks_on}
+use Rattle.bus_model.specs.World.{Trace, drives_after, next_tick, ticks_on}
 use Rattle.bus_law_line.specs.Shown.{shown_of}
 use Rattle.bus_law_line.specs.Senders.{IsSpent, LeftAlone}
-use Rattle.bus_law_line.proofs.Sent.{left-spent}
 use Rattle.bus_law_stations.specs.Silence.{quiet_pair, quiet_pairs, quiet_moments, NothingStarts, StationRests}
 use Rattle.bus_law_stations.specs.Turns.{KeepsControl}
 use Rattle.bus_law_stations.proofs.Ready.{three-first}
@@ -34,10 +32,9 @@ use Rattle.bus_law_stations.proofs.Resting.{heard-quiet, rests-quiet}
 use Rattle.bus_law_stations.proofs.StillController.{pairs-long, fewer, still-course, still-drive}
 use Rattle.bus_law_stations.proofs.StillStation.{always-taken, still-so-far, still-after, still-terminal, still-quiet}
 use Rattle.bus_law_stations.proofs.Turning.{holding-course, holding-sends}
-use Rattle.bus_law_messages.specs.Settled.{IsFree, InControl, IsServing, Settled, NoneTakes, NoneStarts}
-use Rattle.bus_law_messages.proofs.Sending.{place-silent, place-drives, shown-long}
+use Rattle.bus_law_messages.specs.Settled.{IsFree, IsServing, NoneStarts}
 use Rattle.bus_law_messages.proofs.Running.{quiet-pair}
-use Rattle.bus_law_messages.proofs.Unanswered.{free-still, trace-later}
+use Rattle.bus_law_messages.proofs.Unanswered.{free-still}
 
 -- ---- channels
 
@@ -47,7 +44,7 @@ on-quiet A (suc n) past = ap (λ xs. Quiet ∷ xs) (on-quiet A n past)
 on-quiet B (suc n) past = ap (λ xs. Quiet ∷ xs) (on-quiet B n past)
 
 -- both have been quiet from the same tick on
-from-quiet : (n : ℕ) (past : List Pair) → quiet_from (quiet_pairs n ++ past) ≡ quiet_from past
+pub from-quiet : (n : ℕ) (past : List Pair) → quiet_from (quiet_pairs n ++ past) ≡ quiet_from past
 from-quiet zero past = refl
 from-quiet (suc n) past =
     let same : length (quiet_pairs n ++ past) - quiet_both (quiet_pairs n ++ past) ≡ length past - quiet_both past = from-quiet n past in omega (arith, same)
@@ -181,67 +178,3 @@ module _ (k : ℕ) (plan : PlanData) (loads : List TimedLoad) (outside : List Ou
       drives_on d (station_drive station (newest_drives (silent ++ before.driven))) ≡ false
   undriven-still [] left undriven d station = undriven d station
   undriven-still (drives ∷ silent) left undriven d station = (left d).undriven.0 station
-
-module _ (k : ℕ) (plan : PlanData) (loads : List TimedLoad) (outside : List OutsideTake) (absent : List ℕ) (before : Trace) (place : ℕ)
-    (holder : StationData) (n : ℕ) (settled : Settled k plan loads outside absent before place holder)
-    (none : NoneStarts (course_after k holder (starts plan holder) loads outside before.shown) before.shown n)
-    (stays : NoneTakes k plan loads outside place (length before.shown) (length before.shown + n)) where
-  nothing : (m : ℕ) → m ≤ n → NothingStarts k (course_after k holder (starts plan holder) loads outside before.shown) before.shown m
-  nothing m few =
-      nothing-starts k (course_after k holder (starts plan holder) loads outside before.shown) before.shown m settled.controls.idle
-      (λ entry later left. let late = none entry later left in omega (arith, late, few))
-
-  pub all-quiet : (m : ℕ) → m < n → (station : ℕ) → station_drive station (drives_after k plan loads outside absent (quiet_pairs m ++ before.shown)) ≡ Silent
-  all-quiet m few station = elim (cases_eq station place) [
-    | inl same ↦ ap (λ i. station_drive i (drives_after k plan loads outside absent (quiet_pairs m ++ before.shown))) same
-        ∙ ap drive_or (place-drives k plan loads outside absent (quiet_pairs m ++ before.shown) place holder Silent settled.there settled.present
-        (holder-silent k holder (starts plan holder) loads outside before.shown settled.controls.holds settled.controls.before m (nothing (suc m) few)))
-    | inr apart ↦ place-silent k plan loads outside absent (quiet_pairs m ++ before.shown) station (λ other there present.
-        serving-quiet k other (starts plan other) loads outside before.shown (settled.others station other there apart present) m
-        (λ tick low high. stays station other there apart tick low (omega (arith, high, few))))
-  ]
-
-  pub settled-still : (silent : List (List Drive)) → ((d : Channel) → LeftAlone plan.faults d before.driven silent) →
-      Settled k plan loads outside absent record { shown = quiet_pairs n ++ before.shown; driven = silent ++ before.driven } place holder
-  settled-still silent left =
-      let same = same-course k holder (starts plan holder) loads outside before.shown settled.controls.holds settled.controls.before n
-      (nothing n (omega arith)) in
-      let long : length (quiet_pairs n ++ before.shown) ≡ n + length before.shown = pairs-long n before.shown in
-      record {
-        rests = λ d. ap (runs k) (on-quiet d n before.shown) ∙ rests-quiet k n (on_channel d before.shown) (settled.rests d);
-        undriven = undriven-still k plan loads outside absent before n settled.spent all-quiet silent left settled.undriven;
-        spent = λ d station. left-spent plan.faults d before.driven silent (left d) station;
-        there = settled.there;
-        present = settled.present;
-        controls = record {
-          holds = ap (λ (c : Course). c.holds) same ∙ settled.controls.holds;
-          idle = ap (λ (c : Course). c.runs) same ∙ settled.controls.idle;
-          before = λ tick late. ap (λ (c : Course). yielded_in tick c.ended) same ∙ settled.controls.before tick (omega (arith, late, long));
-        };
-        others = λ other station there apart present.
-            serving-still k station (starts plan station) loads outside before.shown (settled.others other station there apart present) n
-            (stays other station there apart);
-      }
-
-pub pause : (k : ℕ) (plan : PlanData) (loads : List TimedLoad) (outside : List OutsideTake) (absent : List ℕ) (t place : ℕ) (holder : StationData) (n : ℕ) →
-    let before : Trace = trace k plan loads outside absent t in let after : Trace = trace k plan loads outside absent (t + n) in
-    let c : Course = course_after k holder (starts plan holder) loads outside before.shown in
-    Settled k plan loads outside absent before place holder → NoneStarts c before.shown n → NoneTakes k plan loads outside place t (t + n) →
-    (after.shown ≡ quiet_pairs n ++ before.shown) × Settled k plan loads outside absent after place holder
-    × (course_after k holder (starts plan holder) loads outside after.shown ≡ c) × (quiet_from after.shown ≡ quiet_from before.shown)
-pause k plan loads outside absent t place holder n settled none stays =
-    let before : Trace = trace k plan loads outside absent t in
-    let long : length before.shown ≡ t = shown-long k plan loads outside absent t in
-    let here : NoneTakes k plan loads outside place (length before.shown) (length before.shown + n) =
-    λ other station there apart tick low high. stays other station there apart tick (omega (arith, low, long)) (omega (arith, high, long)) in
-    let p = paused k plan loads outside absent before n settled.spent (all-quiet k plan loads outside absent before place holder n settled none here) n
-    (omega arith) in
-    let later = sym (trace-later k plan loads outside absent t n) ∙ p.1.0 in (
-      ap (λ (tr : Trace). tr.shown) later,
-      subst (λ tr. Settled k plan loads outside absent tr place holder) (sym later)
-          (settled-still k plan loads outside absent before place holder n settled none here p.0 p.1.1),
-      ap (λ (tr : Trace). course_after k holder (starts plan holder) loads outside tr.shown) later
-          ∙ same-course k holder (starts plan holder) loads outside before.shown settled.controls.holds settled.controls.before n
-          (nothing-starts k (course_after k holder (starts plan holder) loads outside before.shown) before.shown n settled.controls.idle none),
-      ap (λ (tr : Trace). quiet_from tr.shown) later ∙ from-quiet n before.shown,
-    )

@@ -1,7 +1,7 @@
 //! What the world shows of one message: the third of the laws by which the world does what the message table says. Laws alone, each the contract
-//! of an empty function. Proved: the world begins settled, and pauses until a message starts; from a settled moment the station in control sends its
-//! command alone, and every other station obeys it or passes over it; a message without an answer then is Sent, and one whose answer is due and
-//! good is Clear; and after either the world is settled again.
+//! of an empty function, over the world of any plan. Proved: the world begins settled, and pauses until a message starts; from a settled moment
+//! the station in control sends its command alone, and every other station obeys it or passes over it; a message without an answer is Sent; an
+//! answer comes when it is due, and the only one of its message, if it is good, ends that message Clear; and after either the world is settled again.
 #![tactic(auto)]
 
 pub mod commands;
@@ -10,4 +10,6 @@ pub mod shapes;
 
 pub use commands::{a_command_is_sent_alone, a_sent_command_is_heard};
 pub use pauses::{the_world_begins_settled, the_world_pauses_until_a_message_starts};
-pub use shapes::{a_good_answer_clears_its_message, a_message_without_answer_is_sent, an_answer_comes_due};
+pub use shapes::{
+    a_good_answer_clears_its_message, a_message_without_answer_is_sent, an_answer_comes_due,
+};

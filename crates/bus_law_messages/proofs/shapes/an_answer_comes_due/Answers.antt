@@ -1,4 +1,4 @@
-use Rattle.bus_law_messages.proofs.Owing.{due-at}
+use Rattle.bus_law_messages.proofs.ComesDue.{due-at}
 use Rattle.bus_law_messages.proofs.shapes.an_answer_comes_due.Goals as goal
 
 pub returns : goal.returns
