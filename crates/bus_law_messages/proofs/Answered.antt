@@ -176,7 +176,8 @@ module _ (k : ℕ) (plan : PlanData) (loads : List TimedLoad) (outside : List Ou
         × AnswerOver k plan loads outside absent before place holder begun answerer words hits status t ticks sent silent
         × Settled k plan loads outside absent record { shown = ticks ++ before.shown; driven = silent ++ (sent ++ before.driven) } place holder
     answer-over =
-        let o = words-over k plan loads outside absent before sender hits limit due.undriven due.spent whole own-drives others-silent some added (omega arith) in (
+        let o = words-over k plan loads outside absent before sender hits limit due.undriven due.spent whole own-drives others-silent
+        some added (omega arith) in (
           o.0 ∷ o.1,
           o.2,
           o.3,

@@ -73,7 +73,8 @@ module _ (k : ℕ) (station : StationData) (starts : Bool) (loads : List TimedLo
   less x ticks alone = (alone.0.2, ap (λ (xs : List Sample). drop 1 xs) alone.1)
 
   -- it goes on owing the answer
-  still-owed : (ticks : List Pair) → RunsAlone k c ticks → (standing k t loads hearing.memory (moments_of course ticks ++ hearing.ticks)).duty ≡ owes words false
+  still-owed : (ticks : List Pair) → RunsAlone k c ticks →
+      (standing k t loads hearing.memory (moments_of course ticks ++ hearing.ticks)).duty ≡ owes words false
   still-owed [] alone = answers.duty
   still-owed (x ∷ ticks) alone =
       ap (λ (u : Standing). u.duty)

@@ -81,6 +81,6 @@ due-at k plan loads outside absent t place holder entry hits shape answerer answ
       so.2,
       so.3,
       ap (λ (tr : Trace). tr.shown) later,
-      subst (λ tr. AnswerDue k plan loads outside absent tr place holder begun (end_of (burst_sent t hits (command_words entry.item.kind))) answerer answering words)
-          (sym later) is,
+      subst (λ tr. AnswerDue k plan loads outside absent tr place holder begun (end_of (burst_sent t hits (command_words entry.item.kind)))
+          answerer answering words) (sym later) is,
     )

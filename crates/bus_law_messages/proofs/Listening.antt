@@ -100,7 +100,8 @@ either-none : (b : Bool) (o : Option ℕ) → o ≡ None → (if b then None els
 either-none true o none = refl
 either-none false o none = none
 
-accepts-not : (k : ℕ) (t : TerminalData) (loads : List TimedLoad) (past : List Sample) (x : Sample) (s : Standing) (duty : Duty) → ended_now k (x ∷ past) ≡ None →
+accepts-not : (k : ℕ) (t : TerminalData) (loads : List TimedLoad) (past : List Sample) (x : Sample) (s : Standing) (duty : Duty) →
+    ended_now k (x ∷ past) ≡ None →
     accepted_by k t loads past x s duty ≡ None
 accepts-not k t loads past x s free none = refl
 accepts-not k t loads past x s (promises command transmitter) none = refl

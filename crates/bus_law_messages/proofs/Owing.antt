@@ -209,7 +209,8 @@ module _ (k : ℕ) (plan : PlanData) (loads : List TimedLoad) (outside : List Ou
       let stands = still-terminal k answering (starts plan answering) loads outside mid.shown n rests in
       let later = ap (λ (b : StationSoFar). b.hearing) so.2 in
       let count : length hearing.ticks ≡ length mid.shown = hearing-long k answering (starts plan answering) loads outside mid.shown in
-      let all : length (hearing_after k answering (starts plan answering) loads outside (quiet_pairs n ++ mid.shown)).ticks ≡ length (quiet_pairs n ++ mid.shown) =
+      let all : length (hearing_after k answering (starts plan answering) loads outside (quiet_pairs n ++ mid.shown)).ticks
+      ≡ length (quiet_pairs n ++ mid.shown) =
       hearing-long k answering (starts plan answering) loads outside (quiet_pairs n ++ mid.shown) in
       let ticked : length (quiet_pairs n ++ mid.shown) ≡ n + length mid.shown = pairs-long n mid.shown in
       let at : length (quiet_moments so.0 ++ hearing.ticks) ≡ due_after t e =

@@ -69,7 +69,8 @@ module _ (k : ℕ) (plan : PlanData) (loads : List TimedLoad) (outside : List Ou
 
   -- the station in control drives the samples of its command
   pub own-drives : (ticks : List Pair) → RunsAlone k sender.channel ticks → length ticks < limit →
-      slice_get (drives_after k plan loads outside absent (ticks ++ before.shown)) place ≡ Some (drive_sample sender.channel Command sender.words (length ticks))
+      slice_get (drives_after k plan loads outside absent (ticks ++ before.shown)) place
+      ≡ Some (drive_sample sender.channel Command sender.words (length ticks))
   own-drives ticks runs early =
       place-drives k plan loads outside absent (ticks ++ before.shown) place holder (drive_sample sender.channel Command sender.words (length ticks))
       settled.there settled.present

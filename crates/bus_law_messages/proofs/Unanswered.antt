@@ -178,7 +178,8 @@ module _ (k : ℕ) (plan : PlanData) (loads : List TimedLoad) (outside : List Ou
     there = settled.there;
     present = settled.present;
     controls = control-again none;
-    others = λ other station there apart present. serving-again k loads outside before.shown ticks c burst rests-over station (starts plan station) (settled.others other station there apart present)
+    others = λ other station there apart present. serving-again k loads outside before.shown ticks c burst rests-over station (starts plan station)
+        (settled.others other station there apart present)
         (over.others other station there apart present) (unanswered other station there apart present);
   }
 

@@ -83,5 +83,6 @@ module _ (k : ℕ) (station : StationData) (starts : Bool) (loads : List TimedLo
       keeps ticks alone,
     )
 
-    pub clear-course : course_after k station starts loads outside ((x ∷ ticks) ++ past) ≡ close c begun (clear_with begun burst status) (length (ticks ++ past))
+    pub clear-course : course_after k station starts loads outside ((x ∷ ticks) ++ past)
+        ≡ close c begun (clear_with begun burst status) (length (ticks ++ past))
     clear-course = holding-course k station starts loads outside past (x ∷ ticks) end-keeps ∙ end-clear

@@ -43,7 +43,8 @@ pub fn a_message_without_answer_is_sent()
         let begun : Begun = message_begun c entry t in let words : List Word = command_words entry.item.kind in
         let after : Trace = trace k plan loads outside absent (t + (40 * length words + suc k)) in
         Settled k plan loads outside absent before place holder → BeginsMessage c before.shown entry → (answers_of entry.item.kind).first ≡ None →
-        NoneTakes k plan loads outside place t (t + (40 * length words + suc k)) → LeavesWhole plan.faults Command before.driven hits words → added_by hits ≡ 0 →
+        NoneTakes k plan loads outside place t (t + (40 * length words + suc k)) →
+        LeavesWhole plan.faults Command before.driven hits words → added_by hits ≡ 0 →
         IsUnanswered k plan loads outside absent before.shown place begun.state.channel (burst_sent t hits words) →
         (ticks : List Pair) × (sent : List (List Drive)) × (silent : List (List Drive))
         × CommandOver k plan loads outside absent before place holder begun hits ticks sent silent
