@@ -52,6 +52,7 @@ impl Cutter {
     /// Hears the channel's sample of one tick, and tells what became known with it: for every past for which the cutter stands, what is
     /// found in that past with the sample. It stands for that past then.
     #[tactic(auto, unfolding(crate::specs::Cutting::CutterStands))]
+    #[inline(always)]
     pub fn hear(&mut self, sample: Sample) -> Cut
         requires { (past : List Sample) × CutterStands LAG self.old past × (length past < 2 ^ 60) }
         ensures cut { (past : List Sample) → CutterStands LAG self.old past → result ≡ cut_now LAG (sample ∷ past) }
@@ -64,12 +65,14 @@ impl Cutter {
     }
 
     // Whether a burst runs.
+    #[inline(always)]
     fn runs(&self) -> bool
         ensures { IsTrue result ↔ (self.now.quiet ≤ LAG) }
     {
         self.quiet <= LAG
     }
 
+    #[inline(always)]
     fn hear_quiet(&mut self) -> Cut
         requires { (past : List Sample) × Follows LAG self.old past × (length past < 2 ^ 60) }
         ensures cut { (past : List Sample) → Follows LAG self.old past → result ≡ cut_now LAG (Sample.Quiet ∷ past) }
@@ -91,6 +94,7 @@ impl Cutter {
     }
 
     // A sample that isn't quiet.
+    #[inline(always)]
     fn hear_pulse(&mut self, sample: Sample) -> Cut
         requires past { (past : List Sample) × Follows LAG self.old past × (length past < 2 ^ 60) }
         requires pulse { is_quiet sample ≡ false }
@@ -120,6 +124,7 @@ impl Cutter {
     }
 
     // The first sample of a burst.
+    #[inline(always)]
     fn begin(&mut self, sample: Sample)
         requires { length self.old.samples ≡ 40 }
         ensures { self.new ≡ begun self.old.samples sample }
