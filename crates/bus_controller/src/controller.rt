@@ -58,10 +58,23 @@ impl Controller {
             ControllerStands LAG station starts takes self.new (heard ∷ past) }
     {
         let moment = self.receiver.hear(now, heard);
-        self.step(moment)
+        self.step(&moment)
     }
 
-    fn step(&mut self, moment: Moment) -> ControllerEvent
+    // Mostly nothing begins or ends in a tick: then the state isn't moved.
+    #[inline(always)]
+    fn step(&mut self, moment: &Moment) -> ControllerEvent
+        ensures receiver { self.new.receiver ≡ self.old.receiver }
+        ensures state { self.new.state ≡ (next_of_state LAG self.old.state moment.now).state }
+        ensures event { result ≡ (next_of_state LAG self.old.state moment.now).event }
+    {
+        if self.state.stay(moment) {
+            return ControllerEvent::Nothing;
+        }
+        self.change(*moment)
+    }
+
+    fn change(&mut self, moment: Moment) -> ControllerEvent
         ensures receiver { self.new.receiver ≡ self.old.receiver }
         ensures state { self.new.state ≡ (next_of_state LAG self.old.state moment).state }
         ensures event { result ≡ (next_of_state LAG self.old.state moment).event }

@@ -1,6 +1,7 @@
 //! An offer of control was answered badly.
-ghost use Rattle.std.specs.Prelude.{◌≡◌};
-ghost use Rattle.bus_controller.specs.Steps.{from_doubting, doubts};
+ghost use Rattle.std.specs.Prelude.{◌≡◌, true};
+ghost use Rattle.bus_controller.specs.Steps.{from_doubting, doubts, going};
+ghost use Rattle.bus_controller.specs.declared.states.ControllerState.TheVariants as states;
 
 use crate::agenda::Agenda;
 use crate::attempt::{Begun, Ended};
@@ -23,6 +24,15 @@ pub struct Doubting {
 }
 
 impl Doubting {
+    /// Whether it is in doubt after this tick too, so that nothing changes.
+    #[inline(always)]
+    pub(crate) fn stays(&self, moment: &Moment) -> bool
+        ensures { result ≡ true → from_doubting self.now moment.now ≡ going (states.Doubting self.now) }
+    {
+        let since = moment.next.0.saturating_sub(self.end.0);
+        moment.quiet >= since && since != DOUBTING
+    }
+
     /// Hears a tick.
     pub fn hear(self, moment: Moment) -> ControllerNext
         ensures { result ≡ from_doubting self moment }

@@ -1,7 +1,10 @@
 //! An answer is awaited or heard.
-ghost use Rattle.std.specs.Prelude.{◌≡◌, ◌-◌, List, ◌++◌, ◌∷◌, [], nat_le, Option, Some, None};
+ghost use Rattle.std.specs.Prelude.{◌≡◌, ◌-◌, ◌&&◌, true, false, List, ◌++◌, ◌∷◌, [], nat_le, Option, Some, None};
+ghost use Rattle.bus_base.specs.Samples.{sample_on, is_quiet};
+ghost use Rattle.bus_formats.specs.Times.{no_response};
+ghost use Rattle.bus_controller.specs.declared.states.ControllerState.TheVariants as states;
 ghost use Rattle.bus_line.specs.declared.cutter.TheConstants.{LAG};
-ghost use Rattle.bus_controller.specs.Steps.{expects, from_expecting, silent, runs_on, is_abandoned, cut_heard, kept, read, first_read, good_first, second_read, ends_first};
+ghost use Rattle.bus_controller.specs.Steps.{expects, from_expecting, silent, runs_on, is_abandoned, cut_heard, kept, read, first_read, good_first, second_read, ends_first, going};
 ghost use Rattle.bus_controller.specs.Steps as spec;
 ghost use Rattle.bus_formats.specs.Forms.{answers_of};
 
@@ -12,7 +15,7 @@ use crate::doubting::doubt;
 use crate::moment::Moment;
 use crate::states::{ControllerNext, ControllerState};
 use arrayvec::ArrayVec;
-use bus_base::{Part, Sample, Tick};
+use bus_base::{Channel, Part, Sample, Tick};
 use bus_formats::{NO_RESPONSE, Outcome, Reading, answers, read_answer};
 use bus_line::{Cut, LAG};
 use bus_words::{Status, Word};
@@ -55,6 +58,29 @@ impl Expecting {
         }
     }
 
+    /// Hears a tick in place, where the wait or the answer goes on. False where it doesn't: then the tick isn't heard.
+    #[inline(always)]
+    pub(crate) fn stay(&mut self, moment: &Moment) -> bool
+        ensures stays { result ≡ true → from_expecting LAG self.old moment.now ≡ going (states.Expecting self.new) }
+        ensures same { result ≡ false → self.new ≡ self.old }
+    {
+        let channel = self.begun.state.channel;
+        let gives_up = self.is_abandoned(moment);
+        match &mut self.answer {
+            None => is_awaited(self.end, channel, moment),
+            Some(slots) => match moment.cut(channel) {
+                Cut::Ended { .. } => false,
+                Cut::Slot { word, .. } => {
+                    if !gives_up {
+                        keep_slot(slots, word);
+                    }
+                    !gives_up
+                }
+                Cut::Nothing => !gives_up,
+            },
+        }
+    }
+
     /// Hears a tick.
     pub fn hear(mut self, moment: Moment) -> ControllerNext
         ensures { result ≡ from_expecting LAG self moment }
@@ -93,7 +119,7 @@ impl Expecting {
     fn run(mut self, slots: Slots, moment: Moment) -> ControllerNext
         ensures { result ≡ runs_on self slots.items moment }
     {
-        if self.is_abandoned(moment) {
+        if self.is_abandoned(&moment) {
             let ended = Ended::without_words(Outcome::Abandoned, None, None);
             return close(self.agenda, self.begun, ended, moment);
         }
@@ -102,8 +128,8 @@ impl Expecting {
     }
 
     // Whether the first answer is given up in this tick, in which it isn't quiet.
-    fn is_abandoned(&self, moment: Moment) -> bool
-        ensures { result ≡ is_abandoned self.now moment }
+    fn is_abandoned(&self, moment: &Moment) -> bool
+        ensures { result ≡ is_abandoned self.now moment.now }
     {
         match (
             self.first,
@@ -135,13 +161,31 @@ fn end_known(moment: Moment) -> Tick
     Tick(moment.tick.0.saturating_sub(u64::from(LAG)))
 }
 
+// Whether an answer is awaited on, where none has begun before this tick.
+#[inline(always)]
+fn is_awaited(end: Tick, channel: Channel, moment: &Moment) -> bool
+    ensures { result ≡ (is_quiet (sample_on moment.now.shown channel) && nat_le (moment.now.next.0 - end.0) no_response) }
+{
+    match moment.sample(channel) {
+        Sample::Quiet => moment.next.0.saturating_sub(end.0) <= u64::from(NO_RESPONSE),
+        Sample::Plus | Sample::Minus => false,
+    }
+}
+
+// The first slots are kept.
+fn keep_slot(slots: &mut Slots, word: Option<Word>)
+    ensures { slots.new.items ≡ kept slots.old.items word }
+{
+    if slots.as_slice().len() >= MOST_SLOTS {
+        return;
+    }
+    slots.push(word);
+}
+
 fn with_slot(mut slots: Slots, word: Option<Word>) -> Slots
     ensures { result.items ≡ kept slots.items word }
 {
-    if slots.as_slice().len() >= MOST_SLOTS {
-        return slots;
-    }
-    slots.push(word);
+    keep_slot(&mut slots, word);
     slots
 }
 

@@ -1,6 +1,6 @@
 //! Control is held, and no message is open.
-ghost use Rattle.std.specs.Prelude.{◌≡◌, true};
-ghost use Rattle.bus_controller.specs.Steps.{may_start, starts_with, begins_with, waits, begins, from_holding};
+ghost use Rattle.std.specs.Prelude.{◌≡◌, true, false};
+ghost use Rattle.bus_controller.specs.Steps.{may_start, starts_with, begins_with, waits, begins, from_holding, going};
 ghost use Rattle.bus_controller.specs.declared.states.ControllerState.TheVariants as states;
 
 use crate::agenda::Agenda;
@@ -37,6 +37,25 @@ impl Holding {
             Some(begun) => Sending::new(self.agenda, begun),
             None => unreachable!(),
         }
+    }
+
+    /// Hears a tick in place, where the wait goes on. False where it doesn't: then the tick isn't heard.
+    #[inline(always)]
+    pub(crate) fn stay(&mut self, moment: &Moment) -> bool
+        ensures stays { result ≡ true → from_holding self.old moment.now ≡ going (states.Holding self.new) }
+        ensures same { result ≡ false → self.new ≡ self.old }
+    {
+        if self.opening.is_unsettled(moment.quiet) {
+            return false;
+        }
+        if self
+            .agenda
+            .may_start(self.opening, moment.quiet, moment.next)
+        {
+            return false;
+        }
+        self.quiet = moment.quiet;
+        true
     }
 
     /// Hears a tick.

@@ -1,11 +1,12 @@
 //! A command is sent.
-ghost use Rattle.std.specs.Prelude.{◌≡◌, Option};
+ghost use Rattle.std.specs.Prelude.{◌≡◌, true, false, Option};
 ghost use Rattle.bus_formats.specs.Accepted.{HasItemRanges};
 ghost use Rattle.bus_base.specs.Samples.{is_quiet};
 ghost use Rattle.bus_line.specs.declared.cutter.TheConstants.{LAG};
 ghost use Rattle.bus_model.specs.Sending.{drive_sample};
 ghost use Rattle.bus_base.specs.declared.samples.Part.TheVariants.{Command};
-ghost use Rattle.bus_controller.specs.Steps.{sends, from_sending, quiet_more, command_ended};
+ghost use Rattle.bus_controller.specs.Steps.{sends, from_sending, quiet_more, command_ended, going};
+ghost use Rattle.bus_controller.specs.declared.states.ControllerState.TheVariants as states;
 
 use crate::agenda::Agenda;
 use crate::attempt::{Begun, Ended};
@@ -47,6 +48,21 @@ impl Sending {
             sent: 0,
             quiet: 0,
         }
+    }
+
+    /// Hears a tick in place, where the command goes on. False where its end is known: then the tick isn't heard.
+    #[inline(always)]
+    pub(crate) fn stay(&mut self, moment: &Moment) -> bool
+        ensures stays { result ≡ true → from_sending LAG self.old moment.now ≡ going (states.Sending self.new) }
+        ensures same { result ≡ false → self.new ≡ self.old }
+    {
+        let quiet = quiet_after(self.quiet, moment.sample(self.begun.state.channel));
+        if quiet > LAG {
+            return false;
+        }
+        self.sent = self.sent.saturating_add(1);
+        self.quiet = quiet;
+        true
     }
 
     /// Hears a tick.

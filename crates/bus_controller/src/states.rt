@@ -1,5 +1,5 @@
 //! The states of a controller. Hearing a tick consumes a state and gives the next one.
-ghost use Rattle.std.specs.Prelude.{◌≡◌, length};
+ghost use Rattle.std.specs.Prelude.{◌≡◌, true, false, length};
 ghost use Rattle.bus_line.specs.declared.cutter.TheConstants.{LAG};
 ghost use Rattle.bus_controller.specs.Steps.{going, next_of_state, driven_by, serves, left_of, taken_by};
 
@@ -70,6 +70,22 @@ impl ControllerState {
             ControllerState::Settling(state) => state.hear(moment),
             ControllerState::Doubting(state) => state.hear(moment),
             ControllerState::Yielded(state) => state.hear(moment),
+        }
+    }
+
+    /// Hears a tick in place, where nothing begins or ends in it. False where something does: then the tick isn't heard.
+    #[inline(always)]
+    pub(crate) fn stay(&mut self, moment: &Moment) -> bool
+        ensures stays { result ≡ true → next_of_state LAG self.old moment.now ≡ going self.new }
+        ensures same { result ≡ false → self.new ≡ self.old }
+    {
+        match self {
+            ControllerState::Holding(state) => state.stay(moment),
+            ControllerState::Sending(state) => state.stay(moment),
+            ControllerState::Expecting(state) => state.stay(moment),
+            ControllerState::Settling(state) => state.stays(moment),
+            ControllerState::Doubting(state) => state.stays(moment),
+            ControllerState::Yielded(_) => true,
         }
     }
 
