@@ -1,5 +1,5 @@
 -- Each state that stands for a course and a past gives one that stands for it a tick later, and tells what ended.
-use Rattle.std.proofs.Common.{◌≡◌, ℕ, suc, ◌+◌, ◌-◌, ◌<◌, ◌≤◌, nat_le, Bool, true, false, if◌then◌else◌, List, [], ◌∷◌, length, Option, Some, None, refl, ◌∙◌, arith, inl, inr}
+use Rattle.std.proofs.Common.{◌≡◌, ℕ, suc, ◌+◌, ◌-◌, ◌<◌, ◌≤◌, nat_le, Bool, true, false, if◌then◌else◌, List, [], ◌∷◌, length, Option, Some, None, refl, sym, ◌∙◌, arith, inl, inr}
 use Rattle.std.proofs.lemmas.Bool.{cases_Bool, cases_lt, cases_eq}
 use Rattle.std.proofs.lemmas.Bool.Decides.{nat_tests}
 use Rattle.bus_base.specs.Samples.{is_quiet, sample_on}
@@ -187,3 +187,12 @@ module _ (k : ℕ) (small : k ≤ 3) (c : Course) (shown : Pair) (past : List Pa
   state-hears (states.Settling s) st = settling-hears s st
   state-hears (states.Doubting s) st = doubting-hears k c shown past s st
   state-hears (states.Yielded s) st = yielded-hears s st
+
+  -- without control a state stays as it is
+  pub serving-stays : (s : ControllerState) → StateStands k c past s → c.holds ≡ false → StateStands k (run_on k shown past c (runs_next past c)) (shown ∷ past) s
+  serving-stays (states.Holding s) st off = (let bad : false ≡ true = sym off ∙ st.waits.holds in cc)
+  serving-stays (states.Sending s) st off = (let bad : false ≡ true = sym off ∙ st.attempt.holds in cc)
+  serving-stays (states.Expecting s) st off = (let bad : false ≡ true = sym off ∙ st.attempt.holds in cc)
+  serving-stays (states.Settling s) st off = (let bad : false ≡ true = sym off ∙ st.waits.holds in cc)
+  serving-stays (states.Doubting s) st off = (let bad : false ≡ true = sym off ∙ st.attempt.holds in cc)
+  serving-stays (states.Yielded s) st off = (yielded-hears s st).0

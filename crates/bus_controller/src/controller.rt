@@ -49,6 +49,7 @@ impl Controller {
 
     /// Hears what both channels showed in a tick, which follows those heard before, and tells of the attempt that ended in it: its frame,
     /// item, turn, channel, start and message, how it ended, what was kept, and whether its item is finished. It takes no memory.
+    #[inline(always)]
     pub fn hear(&mut self, now: Tick, heard: Pair) -> ControllerEvent
         requires { (station : StationData) × (starts : Bool) × (takes : List Take) × (past : List Pair) ×
             ControllerStands LAG station starts takes self.old past × (now.0 ≡ length past) × (length past < 2 ^ 60) }
@@ -59,6 +60,18 @@ impl Controller {
     {
         let moment = self.receiver.hear(now, heard);
         self.step(&moment)
+    }
+
+    /// The same where it has no control: no message ends in the tick.
+    #[inline(always)]
+    pub fn listen(&mut self, now: Tick, heard: Pair)
+        requires { (station : StationData) × (starts : Bool) × (takes : List Take) × (past : List Pair) ×
+            ControllerStands LAG station starts takes self.old past × ((course LAG station starts takes past).holds ≡ false)
+            × (now.0 ≡ length past) × (length past < 2 ^ 60) }
+        ensures { (station : StationData) (starts : Bool) (takes : List Take) (past : List Pair) → ControllerStands LAG station starts takes self.old past →
+            (course LAG station starts takes past).holds ≡ false → ControllerStands LAG station starts takes self.new (heard ∷ past) }
+    {
+        let _ = self.receiver.hear(now, heard);
     }
 
     // Mostly nothing begins or ends in a tick: then the state isn't moved.

@@ -70,6 +70,7 @@ impl Receiver {
 
     /// Hears a tick.
     #[tactic(auto, unfolding(crate::specs::Moments::ReceiverStands))]
+    #[inline(always)]
     pub fn hear(&mut self, now: Tick, shown: Pair) -> Moment
         requires { (past : List Pair) × ReceiverStands LAG self.old past × (now.0 ≡ length past) × (length past < 2 ^ 60) }
         ensures moment { (past : List Pair) → ReceiverStands LAG self.old past → result ≡ moment_of LAG shown past }
