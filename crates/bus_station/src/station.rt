@@ -70,6 +70,7 @@ impl Station {
     /// Hears what both channels showed in the tick `now`, which follows the last tick heard. A station that holds control hears it as a
     /// controller, and one that serves as a terminal; one that yields control in this tick does both. It tells of the attempt that ended in
     /// this tick, or of the block that its terminal took whole in it. It takes no memory.
+    #[inline(always)]
     pub fn hear(&mut self, now: Tick, heard: Pair) -> StationEvent
         requires { (plan : StationData) × (starts : Bool) × (loads : List TimedLoad) × (outside : List OutsideTake) × (past : List Pair)
             × StationStands LAG plan starts loads outside self.old past × (length past ≡ now.0) × (now.0 < 2 ^ 60) }
@@ -88,6 +89,7 @@ impl Station {
     }
 
     // A tick of a station that serves. Its terminal may accept control where items are left.
+    #[inline(always)]
     fn serve(&mut self, now: Tick, heard: Pair) -> StationEvent
         requires { (plan : StationData) × (starts : Bool) × (loads : List TimedLoad) × (outside : List OutsideTake) × (past : List Pair)
             × StationStands LAG plan starts loads outside self.old past × (holds_control LAG plan starts loads outside past ≡ false)
@@ -107,20 +109,23 @@ impl Station {
     }
 
     // Terminal and controller hear a tick of a station that serves.
+    #[inline(always)]
     fn listen(&mut self, now: Tick, heard: Pair) -> TerminalEvent
         requires { (plan : StationData) × (starts : Bool) × (loads : List TimedLoad) × (outside : List OutsideTake) × (past : List Pair)
-            × StationStands LAG plan starts loads outside self.old past × (length past ≡ now.0) × (now.0 < 2 ^ 60) }
+            × StationStands LAG plan starts loads outside self.old past × (holds_control LAG plan starts loads outside past ≡ false)
+            × (length past ≡ now.0) × (now.0 < 2 ^ 60) }
         ensures address { self.new.address ≡ self.old.address }
         ensures taking { self.new.taking ≡ self.old.taking }
         ensures controller { (station : StationData) (starts : Bool) (takes : List Take) (past : List Pair) →
-            ControllerStands LAG station starts takes self.old.controller past → ControllerStands LAG station starts takes self.new.controller (heard ∷ past) }
+            ControllerStands LAG station starts takes self.old.controller past → (course LAG station starts takes past).holds ≡ false →
+            ControllerStands LAG station starts takes self.new.controller (heard ∷ past) }
         ensures terminal { (plan : StationData) (starts : Bool) (loads : List TimedLoad) (outside : List OutsideTake) (past : List Pair) →
             StationStands LAG plan starts loads outside self.old past → length past ≡ now.0 →
             HeardBy LAG plan.terminal loads self.new.terminal result (length past) (hearing_after LAG plan starts loads outside past)
             (control.moment_of heard (course_after LAG plan starts loads outside past)) }
     {
         let may_accept = has_items(&self.controller);
-        let _ = self.controller.hear(now, heard);
+        self.controller.listen(now, heard);
         self.terminal.hear(now, heard, may_accept)
     }
 

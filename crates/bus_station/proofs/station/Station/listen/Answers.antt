@@ -6,29 +6,29 @@ use Rattle.bus_station.proofs.SoFar.{keeps}
 use Rattle.bus_station.proofs.Serving.{sofar}
 use Rattle.bus_station.proofs.station.Station.listen.Goals as goal
 
+pub listen-requires : goal.listen-requires
+unfolding StationStands
+listen-requires c =
+    let (plan, starts, loads, outside, past, st, off, here, small) = c.requires in
+    (plan, starts, (sofar LAG plan starts loads outside past).takes, past, st.controller, off, sym here, omega (arith, here, small))
+
 pub hear-requires : goal.hear-requires
 unfolding StationStands
 hear-requires c =
-    let (plan, starts, loads, outside, past, st, here, small) = c.requires in
-    (plan, starts, (sofar LAG plan starts loads outside past).takes, past, st.controller, sym here, omega (arith, here, small))
-
-pub hear-requires-2 : goal.hear-requires-2
-unfolding StationStands
-hear-requires-2 c =
-    let (plan, starts, loads, outside, past, st, here, small) = c.requires in
+    let (plan, starts, loads, outside, past, st, off, here, small) = c.requires in
     (plan.terminal, loads, (sofar LAG plan starts loads outside past).hearing, st.terminal, (keeps LAG plan starts loads outside past).long ∙ here, small)
 
 pub returns-clause-terminal : goal.returns-clause-terminal
 unfolding StationStands
 returns-clause-terminal c = λ plan starts loads outside past st here.
     let long = (keeps LAG plan starts loads outside past).long ∙ here in
-    subst (λ (may : Bool). HeardBy LAG plan.terminal loads c.hear-2.new.self c.hear-2.result (length past) (sofar LAG plan starts loads outside past).hearing
+    subst (λ (may : Bool). HeardBy LAG plan.terminal loads c.hear.new.self c.hear.result (length past) (sofar LAG plan starts loads outside past).hearing
     (record { shown = c.args.heard; may = may }))
     (c.has_items-may_accept.ensures plan starts (sofar LAG plan starts loads outside past).takes past st.controller)
-    (subst (λ (tick : ℕ). HeardBy LAG plan.terminal loads c.hear-2.new.self c.hear-2.result tick (sofar LAG plan starts loads outside past).hearing
+    (subst (λ (tick : ℕ). HeardBy LAG plan.terminal loads c.hear.new.self c.hear.result tick (sofar LAG plan starts loads outside past).hearing
     (record { shown = c.args.heard; may = c.has_items-may_accept.result })) (sym here)
     record {
-      stands = c.hear-2.ensures.stands plan.terminal loads (sofar LAG plan starts loads outside past).hearing st.terminal long;
-      took = c.hear-2.ensures.took plan.terminal loads (sofar LAG plan starts loads outside past).hearing st.terminal long;
-      accepted = c.hear-2.ensures.accepted plan.terminal loads (sofar LAG plan starts loads outside past).hearing st.terminal long;
+      stands = c.hear.ensures.stands plan.terminal loads (sofar LAG plan starts loads outside past).hearing st.terminal long;
+      took = c.hear.ensures.took plan.terminal loads (sofar LAG plan starts loads outside past).hearing st.terminal long;
+      accepted = c.hear.ensures.accepted plan.terminal loads (sofar LAG plan starts loads outside past).hearing st.terminal long;
     })

@@ -16,7 +16,7 @@ use Rattle.bus_station.proofs.station.Station.serve.Goals as goal
 pub listen-requires : goal.listen-requires
 listen-requires c =
     let (plan, starts, loads, outside, past, st, off, here, small) = c.requires in
-    (plan, starts, loads, outside, past, st, here, small)
+    (plan, starts, loads, outside, past, st, off, here, small)
 
 pub take_over-requires : goal.take_over-requires
 unfolding StationStands
@@ -32,7 +32,7 @@ take_over-requires c =
       starts,
       (sofar LAG plan starts loads outside past).takes,
       c.args.heard ∷ past,
-      c.listen.ensures.controller plan starts (sofar LAG plan starts loads outside past).takes past st.controller,
+      c.listen.ensures.controller plan starts (sofar LAG plan starts loads outside past).takes past st.controller off,
       ap (λ (d : Course). d.holds) same ∙ off,
       λ none. accepted-left LAG plan starts loads outside c.args.heard past end off accepted (sym (ap (λ (d : Course). d.left) same) ∙ none),
       omega (arith, here, c.first_command.ensures),
@@ -44,7 +44,7 @@ returns-in-Nothing c = λ plan starts loads outside past st off here.
     let heard = c.listen.ensures.terminal plan starts loads outside past st here in
     served LAG plan starts loads outside c.args.self.now _ c.listen.result _ c.args.heard past st off
     (none-accepted c.listen.result _ (λ e. (let no : heards.Nothing ≡ heards.Accepted = sym c.in-Nothing.is ∙ e in cc)) heard.accepted)
-    (c.listen.ensures.controller plan starts (sofar LAG plan starts loads outside past).takes past st.controller)
+    (c.listen.ensures.controller plan starts (sofar LAG plan starts loads outside past).takes past st.controller off)
     heard c.listen.ensures.address c.listen.ensures.taking refl (sym (ap delivery_heard c.in-Nothing.is))
 
 pub returns-in-Took : goal.returns-in-Took
@@ -53,7 +53,7 @@ returns-in-Took c = λ plan starts loads outside past st off here.
     let heard = c.listen.ensures.terminal plan starts loads outside past st here in
     served LAG plan starts loads outside c.args.self.now _ c.listen.result _ c.args.heard past st off
     (none-accepted c.listen.result _ (λ e. (let no : heards.Took c.in-Took.delivery ≡ heards.Accepted = sym c.in-Took.is ∙ e in cc)) heard.accepted)
-    (c.listen.ensures.controller plan starts (sofar LAG plan starts loads outside past).takes past st.controller)
+    (c.listen.ensures.controller plan starts (sofar LAG plan starts loads outside past).takes past st.controller off)
     heard c.listen.ensures.address c.listen.ensures.taking refl (sym (ap delivery_heard c.in-Took.is))
 
 pub returns-in-Accepted : goal.returns-in-Accepted
@@ -71,7 +71,7 @@ returns-in-Accepted c = λ plan starts loads outside past st off here.
     accepted
     (omega (arith, known, kept.long, here, c.first_command.ensures)) (omega (arith, here, c.first_command.ensures))
     (c.take_over.ensures.controller plan starts (sofar LAG plan starts loads outside past).takes (c.args.heard ∷ past)
-    (c.listen.ensures.controller plan starts (sofar LAG plan starts loads outside past).takes past st.controller)
+    (c.listen.ensures.controller plan starts (sofar LAG plan starts loads outside past).takes past st.controller off)
     (ap (λ (d : Course). d.holds) same ∙ off) (omega (arith, here, c.first_command.ensures)))
     heard
     (c.take_over.ensures.terminal plan.terminal loads _ (suc (length past)) heard.stands (made-more plan.terminal.address (length past) loads st.made))
