@@ -80,7 +80,7 @@ heard-word : (position : ℕ) (o : Option Word) → position < 40 → (o ≡ Non
 heard-word position None within some = absurd (some refl)
 heard-word position (Some word) within some = heard-spelling word position within
 
-heard-unstruck : (words : List Word) → AreHeard [] words
+pub heard-unstruck : (words : List Word) → AreHeard [] words
 heard-unstruck words i within =
     heard-word (i % 40) (slice_get words (i / 40)) (omega arith) (some-word words (i / 40) (omega (arith, within)))
 

@@ -15,3 +15,4 @@ pub mod Answered
 pub mod Awaiting
 pub mod Owing
 pub mod ComesDue
+pub mod Spoken

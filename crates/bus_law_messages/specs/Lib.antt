@@ -2,3 +2,4 @@ pub mod Settled
 pub mod Commands
 pub mod Ends
 pub mod Answers
+pub mod Addressed

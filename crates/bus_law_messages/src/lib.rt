@@ -7,9 +7,14 @@
 pub mod commands;
 pub mod pauses;
 pub mod shapes;
+pub mod unstruck;
 
 pub use commands::{a_command_is_sent_alone, a_sent_command_is_heard};
 pub use pauses::{the_world_begins_settled, the_world_pauses_until_a_message_starts};
 pub use shapes::{
     a_good_answer_clears_its_message, a_message_without_answer_is_sent, an_answer_comes_due,
+};
+pub use unstruck::{
+    an_unnamed_part_stays_whole, an_unstruck_answer_is_for_no_other_terminal,
+    an_unstruck_command_is_for_those_it_names,
 };
