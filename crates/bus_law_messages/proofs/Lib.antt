@@ -16,3 +16,7 @@ pub mod Awaiting
 pub mod Owing
 pub mod ComesDue
 pub mod Spoken
+pub mod Owed
+pub mod Received
+pub mod Named
+pub mod WhoAnswers

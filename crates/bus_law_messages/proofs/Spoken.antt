@@ -1,8 +1,8 @@
 -- Words that no fault strikes, and which terminals find a command in them.
-use Rattle.std.proofs.Common.{◌≡◌, ◌≢◌, ◌⊎◌, inl, inr, ℕ, suc, ◌+◌, ◌*◌, ◌/◌, ◌%◌, ◌<◌, ◌≤◌, Bool, true, false, List, [], ◌∷◌, length, map, Option, Some, None, refl, sym, ap, ◌∙◌, arith, All}
-use Rattle.std.proofs.lemmas.List.Elements.{All-nil, All-cons, All-map}
+use Rattle.std.proofs.Common.{◌≡◌, ◌≢◌, ◌⊎◌, inl, inr, ℕ, ◌+◌, ◌*◌, ◌/◌, ◌%◌, ◌<◌, ◌≤◌, Bool, true, false, List, [], ◌∷◌, length, map, Option, Some, None, refl, ap, ◌∙◌, arith, All}
+use Rattle.std.proofs.lemmas.List.Elements.{All-cons, All-map}
 use Rattle.std.proofs.lemmas.Bool.Decides.{nat_tests}
-use Rattle.std.specs.Prelude.{◌&&◌, ◌||◌, ◌==◌, not, if◌then◌else◌, option_to_list}
+use Rattle.std.specs.Prelude.{◌==◌, if◌then◌else◌, option_to_list}
 use Rattle.std.specs.Option.{option_or}
 use Rattle.bus_base.specs.declared.samples.Drive.{Drive}
 use Rattle.bus_base.specs.declared.samples.Part.{Part}
@@ -13,7 +13,7 @@ use Rattle.bus_formats.specs.Forms.{command_word, data_word, data_command, comma
 use Rattle.bus_formats.specs.declared.fault.Fault.{Fault}
 use Rattle.bus_formats.specs.declared.plan.Kind.{Kind}
 use Rattle.bus_formats.specs.declared.plan.Kind.TheVariants.{Receive, Transmit, Relay, Mode}
-use Rattle.bus_model.specs.Orders.{is_for, command_by, Order, order_with, last_order}
+use Rattle.bus_model.specs.Orders.{is_for, command_by, order_with, last_order}
 use Rattle.bus_model.specs.Strikes.{hits_on}
 use Rattle.bus_law_line.specs.Shown.{slots_shown}
 use Rattle.bus_law_line.specs.Senders.{attempt_to_come}
@@ -21,7 +21,7 @@ use Rattle.bus_law_line.proofs.WordSlots.{heard-unstruck, unstruck}
 use Rattle.bus_law_messages.specs.Commands.{LeavesWhole}
 use Rattle.bus_law_messages.specs.Addressed.{whole_slots, with_data, is_to, order_to, order_in}
 
-mode-sub : (sub : ℕ) → (sub ≡ 0) ⊎ (sub ≡ 31) → sub ≤ 31
+pub mode-sub : (sub : ℕ) → (sub ≡ 0) ⊎ (sub ≡ 31) → sub ≤ 31
 mode-sub sub (inl none) = omega (arith, none)
 mode-sub sub (inr all) = omega (arith, all)
 
@@ -115,7 +115,7 @@ command-fits (Mode to mode_sub transmit code word) ranges fit =
 pub command-read : (kind : Kind) → HasKindRanges kind → AreWords (words_sent kind) → slots_shown [] 0 (command_words kind) ≡ whole_slots (command_words kind)
 command-read kind ranges fit = (unstruck (command_words kind) (command-fits kind ranges fit)).1
 
-whole-order : (kind : Kind) (own : ℕ) → HasKindRanges kind → last_order own (whole_slots (command_words kind)) ≡ order_in own kind
+pub whole-order : (kind : Kind) (own : ℕ) → HasKindRanges kind → last_order own (whole_slots (command_words kind)) ≡ order_in own kind
 whole-order (Receive to sub words) own ranges =
     data-order own to (command_bits to false sub (length words % 32)) words (address-is to sub (length words % 32) false
     (omega (arith, ranges.subaddress)) (omega arith))
@@ -139,10 +139,10 @@ pub answer-read : (status : ℕ) (words : List ℕ) → status < 65536 → AreWo
     slots_shown [] 0 (with_data status words) ≡ whole_slots (with_data status words)
 answer-read status words small fit = (unstruck (with_data status words) (with-data-fit status words small fit)).1
 
-not-to : (own address : ℕ) → address ≢ own → address ≤ 30 → is_to own address ≡ false
+pub not-to : (own address : ℕ) → address ≢ own → address ≢ 31 → is_to own address ≡ false
 not-to own address apart low = grind (arith, nat_tests, apart, low)
 
-pub answer-order : (status own : ℕ) (words : List ℕ) → status < 65536 → AreWords words → address_of status ≢ own → address_of status ≤ 30 →
+pub answer-order : (status own : ℕ) (words : List ℕ) → status < 65536 → AreWords words → address_of status ≢ own → address_of status ≢ 31 →
     last_order own (slots_shown [] 0 (with_data status words)) ≡ None
 answer-order status own words small fit apart low =
     ap (last_order own) (answer-read status words small fit)

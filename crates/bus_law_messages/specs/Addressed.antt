@@ -1,12 +1,16 @@
 -- Which terminals the words of a message are for, as they are sent: the last command in them for a terminal, with the words after it.
-use Rattle.std.specs.Prelude.{◌≡◌, ◌≢◌, ℕ, ◌%◌, Bool, true, false, not, ◌&&◌, ◌||◌, ◌==◌, if◌then◌else◌, List, [], ◌∷◌, map, length, slice_get, Option, Some, None, option_to_list}
+use Rattle.std.specs.Prelude.{◌≡◌, ◌≢◌, ◌⊎◌, ℕ, ◌%◌, Bool, true, false, not, ◌&&◌, ◌||◌, ◌==◌, if◌then◌else◌, List, [], ◌∷◌, map, length, slice_get, Option, Some, None, option_to_list}
 use Rattle.std.specs.Option.{option_or}
+use Rattle.bus_base.specs.declared.samples.Channel.{Channel}
 use Rattle.bus_words.specs.Fields.{command_bits}
 use Rattle.bus_words.specs.declared.word.Word.{Word}
+use Rattle.bus_formats.specs.Codes.{reset_remote_terminal}
 use Rattle.bus_formats.specs.Forms.{command_word, data_word, data_command}
 use Rattle.bus_formats.specs.Plans.{StationData, PlanData}
 use Rattle.bus_formats.specs.declared.plan.Kind.{Kind}
 use Rattle.bus_formats.specs.declared.plan.Kind.TheVariants.{Receive, Transmit, Relay, Mode}
+use Rattle.bus_model.specs.Memory.{is_off}
+use Rattle.bus_model.specs.Standing.{Standing}
 use Rattle.bus_model.specs.Orders.{Order, last_order}
 use Rattle.bus_model.specs.World.{is_present}
 use Rattle.bus_line.specs.Past.{Burst}
@@ -42,3 +46,20 @@ abbrev pub IsForNoOther : PlanData → List ℕ → ℕ → ℕ → Burst → Ty
 IsForNoOther plan absent place answerer burst =
     (other : ℕ) (station : StationData) → slice_get plan.stations other ≡ Some station → other ≢ place → other ≢ answerer →
     is_present absent station ≡ true → last_order station.terminal.address burst.slots ≡ None
+
+-- ---- who doesn't answer
+
+abbrev pub is_relay_message : Kind → Bool
+is_relay_message (Relay from from_sub to to_sub count) = true
+is_relay_message _ = false
+
+-- the message resets its terminal, which opens its transmitters before it answers
+abbrev pub is_reset_message : Kind → Bool
+is_reset_message (Mode to mode_sub transmit code word) = code == reset_remote_terminal
+is_reset_message _ = false
+
+-- a terminal, of which this stands, has no answer to the message on a channel: it finds no command in it; or its transmitter there is off
+abbrev pub HasNoAnswer : Kind → Channel → StationData → Standing → Type 0
+HasNoAnswer kind c station s =
+    (order_in station.terminal.address kind ≡ None)
+    ⊎ ((is_off s.memory.registers c ≡ true) × (is_relay_message kind ≡ false) × (is_reset_message kind ≡ false))

@@ -5,11 +5,17 @@
 #![tactic(auto)]
 
 pub mod commands;
+pub mod duties;
 pub mod pauses;
 pub mod shapes;
 pub mod unstruck;
 
 pub use commands::{a_command_is_sent_alone, a_sent_command_is_heard};
+pub use duties::{
+    a_command_to_one_terminal_is_answered, a_message_to_nobody_is_unanswered,
+    a_message_without_answer_is_unanswered, a_receive_command_is_answered_by_a_status,
+    a_status_has_its_terminals_address, what_is_for_one_leaves_nothing_of_the_others,
+};
 pub use pauses::{the_world_begins_settled, the_world_pauses_until_a_message_starts};
 pub use shapes::{
     a_good_answer_clears_its_message, a_message_without_answer_is_sent, an_answer_comes_due,

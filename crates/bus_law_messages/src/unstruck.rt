@@ -1,7 +1,7 @@
 //! A part of a message that no fault strikes: it is shown as it is sent, and these terminals find a command in it. Laws alone, each the contract of
 //! an empty function.
 
-ghost use Rattle.std.specs.Prelude.{◌≡◌, ◌≢◌, ℕ, ◌<◌, ◌≤◌, List, [], None};
+ghost use Rattle.std.specs.Prelude.{◌≡◌, ◌≢◌, ℕ, ◌<◌, List, [], None};
 ghost use Rattle.bus_base.specs.declared.samples.Drive.{Drive};
 ghost use Rattle.bus_base.specs.declared.samples.Part.{Part};
 ghost use Rattle.bus_words.specs.declared.word.Word.{Word};
@@ -36,6 +36,6 @@ pub fn an_unstruck_command_is_for_those_it_names()
 pub fn an_unstruck_answer_is_for_no_other_terminal()
     ensures slots { (status : ℕ) (words : List ℕ) → status < 65536 → AreWords words →
         slots_shown [] 0 (with_data status words) ≡ whole_slots (with_data status words) }
-    ensures order { (status own : ℕ) (words : List ℕ) → status < 65536 → AreWords words → address_of status ≢ own → address_of status ≤ 30 →
+    ensures order { (status own : ℕ) (words : List ℕ) → status < 65536 → AreWords words → address_of status ≢ own → address_of status ≢ 31 →
         last_order own (slots_shown [] 0 (with_data status words)) ≡ None }
 {}
