@@ -20,3 +20,5 @@ pub mod Owed
 pub mod Received
 pub mod Named
 pub mod WhoAnswers
+pub mod BlockStarts
+pub mod BlockRuns

@@ -3,3 +3,4 @@ pub mod Commands
 pub mod Ends
 pub mod Answers
 pub mod Addressed
+pub mod FirstPath

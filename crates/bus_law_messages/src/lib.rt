@@ -6,6 +6,7 @@
 
 pub mod commands;
 pub mod duties;
+pub mod first_path;
 pub mod pauses;
 pub mod shapes;
 pub mod unstruck;
@@ -16,6 +17,7 @@ pub use duties::{
     a_message_without_answer_is_unanswered, a_receive_command_is_answered_by_a_status,
     a_status_has_its_terminals_address, what_is_for_one_leaves_nothing_of_the_others,
 };
+pub use first_path::a_block_is_sent_taken_and_cleared;
 pub use pauses::{the_world_begins_settled, the_world_pauses_until_a_message_starts};
 pub use shapes::{
     a_good_answer_clears_its_message, a_message_without_answer_is_sent, an_answer_comes_due,
