@@ -22,3 +22,6 @@ pub mod Named
 pub mod WhoAnswers
 pub mod BlockStarts
 pub mod BlockRuns
+pub mod Midway
+pub mod Silenced
+pub mod Unheard

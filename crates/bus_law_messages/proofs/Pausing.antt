@@ -62,7 +62,7 @@ module _ (k : ℕ) (station : StationData) (starts : Bool) (loads : List TimedLo
   abbrev course : Course
   course = course_after k station starts loads outside past
 
-  keeps-quiet : (n : ℕ) → NothingStarts k course past n → KeepsControl k station starts loads outside past (quiet_pairs n)
+  pub keeps-quiet : (n : ℕ) → NothingStarts k course past n → KeepsControl k station starts loads outside past (quiet_pairs n)
   keeps-quiet zero none = tt
   keeps-quiet (suc n) none =
       let takes = (so_far k station starts loads outside past).takes in
