@@ -1,8 +1,8 @@
--- A message whose only answer is due: the world shows that answer, the message ends Clear, and the world is settled again.
-use Rattle.std.proofs.Common.{◌≡◌, ◌≢◌, inl, inr, ℕ, suc, ◌+◌, ◌*◌, ◌%◌, ◌<◌, true, false, List, [], ◌∷◌, ◌++◌, length, Some, None, sym, ap, ◌∙◌, subst, arith, length-append}
+-- A message whose answer is due, which ends it and keeps control: the world shows that answer, the message ends, and the world is settled again.
+use Rattle.std.proofs.Common.{◌≡◌, ◌≢◌, inl, inr, ℕ, suc, ◌+◌, ◌*◌, ◌%◌, ◌<◌, true, false, List, [], ◌∷◌, ◌++◌, length, Some, sym, ap, ◌∙◌, subst, arith, length-append}
 use Rattle.std.proofs.lemmas.Bool.{cases_eq}
 use Rattle.std.proofs.lemmas.Option.{same_Some}
-use Rattle.std.specs.Prelude.{slice_get, ◌==◌}
+use Rattle.std.specs.Prelude.{slice_get, ◌==◌, not}
 use Rattle.bus_base.specs.declared.samples.Channel.{Channel}
 use Rattle.bus_base.specs.declared.samples.Drive.{Drive}
 use Rattle.bus_base.specs.declared.samples.Drive.TheVariants.{Silent}
@@ -13,18 +13,17 @@ use Rattle.bus_words.specs.declared.word.Word.{Word}
 use Rattle.bus_line.specs.Past.{Burst, quiet_ticks, runs, rest_of, ended_now}
 use Rattle.bus_line.specs.Channels.{on_channel}
 use Rattle.bus_line.proofs.ChannelLaws.{length-on, on-append}
-use Rattle.bus_formats.specs.Forms.{answers_of}
 use Rattle.bus_formats.specs.Plans.{StationData, PlanData}
 use Rattle.bus_formats.specs.Readings.{read_answer}
 use Rattle.bus_formats.specs.declared.fault.Hit.{Hit}
-use Rattle.bus_formats.specs.declared.form.Reading.TheVariants.{Good}
 use Rattle.bus_model.specs.Memory.{TimedLoad}
 use Rattle.bus_model.specs.Sending.{drive_sample}
 use Rattle.bus_model.specs.Starts.{starts}
 use Rattle.bus_model.specs.Strikes.{added_by}
 use Rattle.bus_model.specs.Transmissions.{drive_or, station_drive}
-use Rattle.bus_model.specs.Attempts.{Begun}
-use Rattle.bus_model.specs.Course.{Course, close}
+use Rattle.bus_model.specs.Attempts.{Begun, Ended}
+use Rattle.bus_model.specs.Controller.{first_read}
+use Rattle.bus_model.specs.Course.{Course, gives, close}
 use Rattle.bus_model.specs.Control.{OutsideTake, yielded_in, course_after}
 use Rattle.bus_model.specs.World.{Trace, trace, is_present, drives_after}
 use Rattle.bus_law_line.specs.Shown.{slots_shown}
@@ -33,18 +32,18 @@ use Rattle.bus_law_line.proofs.Sent.{left-spent}
 use Rattle.bus_law_messages.specs.Settled.{IsServing, Settled, NoneTakes}
 use Rattle.bus_law_messages.specs.Commands.{LeavesWhole, WordsEnd}
 use Rattle.bus_law_messages.specs.Ends.{burst_sent, HeardCommand}
-use Rattle.bus_law_messages.specs.Answers.{AnswerDue, answer_sender, clear_with, LeavesNothing, AnswerOver}
+use Rattle.bus_law_messages.specs.Answers.{AnswerDue, answer_sender, LeavesNothing}
+use Rattle.bus_law_messages.specs.AnswerRead.{AnswerRead}
 use Rattle.bus_law_messages.proofs.Listening.{serving-silent}
 use Rattle.bus_law_messages.proofs.Running.{RunsAlone, words-over}
 use Rattle.bus_law_messages.proofs.Sending.{place-silent, place-drives, none-takes-from, shown-long}
 use Rattle.bus_law_messages.proofs.Heard.{burst-of, heard-command}
-use Rattle.bus_law_messages.proofs.Closing.{and-not}
 use Rattle.bus_law_messages.proofs.Unanswered.{first-silent, rests-both, serving-again, trace-later}
 use Rattle.bus_law_messages.proofs.Answering.{answer-drives, serving-after}
-use Rattle.bus_law_messages.proofs.Waiting.{waiting-silent, clear-course}
+use Rattle.bus_law_messages.proofs.Waiting.{not-yielded, waiting-silent, read-course}
 
 module _ (k : ℕ) (plan : PlanData) (loads : List TimedLoad) (outside : List OutsideTake) (absent : List ℕ) (before : Trace) (place t : ℕ)
-    (holder : StationData) (begun : Begun) (e answerer : ℕ) (answering : StationData) (words : List Word) (hits : List Hit) (status : ℕ)
+    (holder : StationData) (begun : Begun) (e answerer : ℕ) (answering : StationData) (words : List Word) (hits : List Hit)
     (long : length before.shown ≡ t) (small : k < 40)
     (due : AnswerDue k plan loads outside absent before place holder begun e answerer answering words)
     (whole : LeavesWhole plan.faults First before.driven hits words) (some : 0 < length words) (added : added_by hits ≡ 0)
@@ -111,22 +110,21 @@ module _ (k : ℕ) (plan : PlanData) (loads : List TimedLoad) (outside : List Ou
       hits words some whole.heard (omega (arith, at)) alone.0 so.shown (so.quiet ∙ ap quiet_ticks (sym so.many))
       (λ tick low high. here other station there away tick low (omega (arith, high, at))))
 
-  module _ (good : read_answer begun.entry.item.kind First (slots_shown hits 0 words) 0 ≡ Good status)
-      (only : (answers_of begun.entry.item.kind).second ≡ None)
+  module _ (ending : Ended)
+      (reads : (shown : List Pair) (heard : List Sample) → first_read k begun.entry.item shown heard (burst_sent t hits words)
+      (read_answer begun.entry.item.kind First (slots_shown hits 0 words) (rest_of (burst_sent t hits words))) ≡ Some ending)
+      (kept : gives ending.outcome ≡ false)
       (nothing : LeavesNothing k plan loads outside absent before.shown place answerer c burst) where
-    no-rest : rest_of burst ≡ 0
-    no-rest = let none : 40 * length words % 40 ≡ 0 = omega arith in none
-
-    is-clear : (x : Pair) (ticks : List Pair) (sent silent : List (List Drive)) → Ends (x ∷ ticks) sent silent → RunsAlone k c ticks →
+    is-ended : (x : Pair) (ticks : List Pair) (sent silent : List (List Drive)) → Ends (x ∷ ticks) sent silent → RunsAlone k c ticks →
         course_after k holder (starts plan holder) loads outside ((x ∷ ticks) ++ before.shown)
-        ≡ close (course_after k holder (starts plan holder) loads outside before.shown) begun (clear_with begun burst status) (t + 40 * length words + k)
-    is-clear x ticks sent silent so alone =
+        ≡ close (course_after k holder (starts plan holder) loads outside before.shown) begun ending (t + 40 * length words + k)
+    is-ended x ticks sent silent so alone =
         let at : suc (length ticks) ≡ 40 * length words + suc k = so.many in
         let count : length (ticks ++ before.shown) ≡ length ticks + length before.shown = length-append ticks before.shown in
         let tick : length (ticks ++ before.shown) ≡ t + 40 * length words + k = omega (arith, at, count, long) in
-        clear-course k holder (starts plan holder) loads outside before.shown begun e due.waits (due.rests c) x ticks burst status alone
-        (channel-ends x ticks sent silent so) (ap (read_answer begun.entry.item.kind First (slots_shown hits 0 words)) no-rest ∙ good) only
-        ∙ ap (close (course_after k holder (starts plan holder) loads outside before.shown) begun (clear_with begun burst status)) tick
+        read-course k holder (starts plan holder) loads outside before.shown begun e due.waits (due.rests c) x ticks burst ending alone
+        (channel-ends x ticks sent silent so) reads kept
+        ∙ ap (close (course_after k holder (starts plan holder) loads outside before.shown) begun ending) tick
 
     rests-ticks : (ticks : List Pair) (sent silent : List (List Drive)) → Ends ticks sent silent → (d : Channel) (past : List Sample) →
         runs k past ≡ false → runs k (on_channel d ticks ++ past) ≡ false
@@ -153,10 +151,10 @@ module _ (k : ℕ) (plan : PlanData) (loads : List TimedLoad) (outside : List Ou
           (nothing other station there away apart present)
     ]
 
-    settled-clear : (x : Pair) (ticks : List Pair) (sent silent : List (List Drive)) → Ends (x ∷ ticks) sent silent → RunsAlone k c ticks →
+    settled-ended : (x : Pair) (ticks : List Pair) (sent silent : List (List Drive)) → Ends (x ∷ ticks) sent silent → RunsAlone k c ticks →
         Settled k plan loads outside absent record { shown = (x ∷ ticks) ++ before.shown; driven = silent ++ (sent ++ before.driven) } place holder
-    settled-clear x ticks sent silent so alone =
-        let same = is-clear x ticks sent silent so alone in
+    settled-ended x ticks sent silent so alone =
+        let same = is-ended x ticks sent silent so alone in
         record {
           rests = λ d. ap (runs k) (on-append d (x ∷ ticks) before.shown)
               ∙ rests-ticks (x ∷ ticks) sent silent so d (on_channel d before.shown) (due.rests d);
@@ -165,15 +163,15 @@ module _ (k : ℕ) (plan : PlanData) (loads : List TimedLoad) (outside : List Ou
           there = due.there;
           present = due.present;
           controls = record {
-            holds = ap (λ (d : Course). d.holds) same;
+            holds = ap (λ (d : Course). d.holds) same ∙ ap not kept;
             idle = ap (λ (d : Course). d.runs) same;
-            before = λ tick late. ap (λ (d : Course). yielded_in tick d.ended) same ∙ and-not (t + 40 * length words + k == tick);
+            before = λ tick late. ap (λ (d : Course). yielded_in tick d.ended) same ∙ not-yielded (t + 40 * length words + k == tick) ending.outcome kept;
           };
           others = serves-again x ticks sent silent so alone;
         }
 
     pub answer-over : (ticks : List Pair) × (sent : List (List Drive)) × (silent : List (List Drive))
-        × AnswerOver k plan loads outside absent before place holder begun answerer words hits status t ticks sent silent
+        × AnswerRead k plan loads outside absent before place holder begun answerer words hits ending t ticks sent silent
         × Settled k plan loads outside absent record { shown = ticks ++ before.shown; driven = silent ++ (sent ++ before.driven) } place holder
     answer-over =
         let o = words-over k plan loads outside absent before sender hits limit due.undriven due.spent whole own-drives others-silent
@@ -181,25 +179,31 @@ module _ (k : ℕ) (plan : PlanData) (loads : List TimedLoad) (outside : List Ou
           o.0 ∷ o.1,
           o.2,
           o.3,
-          record { ends = o.4; controls = is-clear o.0 o.1 o.2 o.3 o.4 o.5; others = heard-it o.0 o.1 o.2 o.3 o.4 o.5 },
-          settled-clear o.0 o.1 o.2 o.3 o.4 o.5,
+          record { ends = o.4; controls = is-ended o.0 o.1 o.2 o.3 o.4 o.5; others = heard-it o.0 o.1 o.2 o.3 o.4 o.5 },
+          settled-ended o.0 o.1 o.2 o.3 o.4 o.5,
         )
 
-pub answer-at : (k : ℕ) (plan : PlanData) (loads : List TimedLoad) (outside : List OutsideTake) (absent : List ℕ) (t place : ℕ) (holder : StationData)
-    (begun : Begun) (e answerer : ℕ) (answering : StationData) (words : List Word) (hits : List Hit) (status : ℕ) → k < 40 →
+-- the ending, by the tick's number
+pub read-at : (k : ℕ) (plan : PlanData) (loads : List TimedLoad) (outside : List OutsideTake) (absent : List ℕ) (t place : ℕ) (holder : StationData)
+    (begun : Begun) (e answerer : ℕ) (answering : StationData) (words : List Word) (hits : List Hit) (ending : Ended) → k < 40 →
     let before : Trace = trace k plan loads outside absent t in
     let after : Trace = trace k plan loads outside absent (t + (40 * length words + suc k)) in
     AnswerDue k plan loads outside absent before place holder begun e answerer answering words →
     NoneTakes k plan loads outside place t (t + (40 * length words + suc k)) → LeavesWhole plan.faults First before.driven hits words →
-    0 < length words → added_by hits ≡ 0 → read_answer begun.entry.item.kind First (slots_shown hits 0 words) 0 ≡ Good status →
-    (answers_of begun.entry.item.kind).second ≡ None →
+    0 < length words → added_by hits ≡ 0 →
+    ((shown : List Pair) (heard : List Sample) → first_read k begun.entry.item shown heard (burst_sent t hits words)
+    (read_answer begun.entry.item.kind First (slots_shown hits 0 words) 0) ≡ Some ending) →
+    gives ending.outcome ≡ false →
     LeavesNothing k plan loads outside absent before.shown place answerer begun.state.channel (burst_sent t hits words) →
     (ticks : List Pair) × (sent : List (List Drive)) × (silent : List (List Drive))
-    × AnswerOver k plan loads outside absent before place holder begun answerer words hits status t ticks sent silent
+    × AnswerRead k plan loads outside absent before place holder begun answerer words hits ending t ticks sent silent
     × (after ≡ record { shown = ticks ++ before.shown; driven = silent ++ (sent ++ before.driven) })
     × Settled k plan loads outside absent after place holder
-answer-at k plan loads outside absent t place holder begun e answerer answering words hits status small due stays whole some added good only nothing =
-    let o = answer-over k plan loads outside absent (trace k plan loads outside absent t) place t holder begun e answerer answering words hits status
-    (shown-long k plan loads outside absent t) small due whole some added stays good only nothing in
+read-at k plan loads outside absent t place holder begun e answerer answering words hits ending small due stays whole some added reads kept nothing =
+    let no_rest : rest_of (burst_sent t hits words) ≡ 0 = let none : 40 * length words % 40 ≡ 0 = omega arith in none in
+    let o = answer-over k plan loads outside absent (trace k plan loads outside absent t) place t holder begun e answerer answering words hits
+    (shown-long k plan loads outside absent t) small due whole some added stays ending
+    (λ shown heard. ap (λ rest. first_read k begun.entry.item shown heard (burst_sent t hits words)
+    (read_answer begun.entry.item.kind First (slots_shown hits 0 words) rest)) no_rest ∙ reads shown heard) kept nothing in
     let later = sym (trace-later k plan loads outside absent t (40 * length words + suc k)) ∙ o.3.ends.world in
     (o.0, o.1, o.2, o.3, later, subst (λ tr. Settled k plan loads outside absent tr place holder) (sym later) o.4)

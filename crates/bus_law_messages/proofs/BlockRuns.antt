@@ -1,5 +1,5 @@
 -- The smallest plan with a message, from the tick in which its command starts to its end.
-use Rattle.std.proofs.Common.{◌≡◌, ◌≢◌, ℕ, zero, suc, ◌+◌, ◌*◌, ◌<◌, ◌≤◌, Bool, true, false, List, [], ◌∷◌, ◌++◌, length, map, Option, Some, None, refl, sym, ap, ◌∙◌, subst, arith}
+use Rattle.std.proofs.Common.{◌≡◌, ℕ, ◌+◌, ◌<◌, true, false, List, [], ◌∷◌, ◌++◌, length, Some, None, refl, sym, ap, ◌∙◌, subst, arith}
 use Rattle.std.proofs.lemmas.List.Elements.{All-nil}
 use Rattle.std.proofs.lemmas.List.{append_assoc}
 use Rattle.std.specs.Prelude.{drop}
@@ -15,7 +15,6 @@ use Rattle.bus_line.specs.Past.{quiet_ticks}
 use Rattle.bus_line.specs.Channels.{on_channel}
 use Rattle.bus_line.proofs.ChannelLaws.{on-append}
 use Rattle.bus_formats.specs.Forms.{command_word, command_words}
-use Rattle.bus_formats.specs.Plans.{StationData}
 use Rattle.bus_formats.specs.Readings.{read_answer}
 use Rattle.bus_formats.specs.declared.form.Outcome.TheVariants.{Clear}
 use Rattle.bus_formats.specs.declared.form.Reading.TheVariants.{Good}
@@ -29,14 +28,13 @@ use Rattle.bus_law_line.specs.Shown.{struck_spelling, slots_shown}
 use Rattle.bus_law_stations.specs.Silence.{quiet_pairs}
 use Rattle.bus_law_stations.specs.Messages.{message_begun, with_running}
 use Rattle.bus_law_messages.specs.Settled.{Settled, NoneStarts}
-use Rattle.bus_law_messages.specs.Commands.{LeavesWhole}
 use Rattle.bus_law_messages.specs.Ends.{burst_sent, CommandOver}
 use Rattle.bus_law_messages.specs.Answers.{AnswerDue, AnswerOver, LeavesNothing, clear_with}
 use Rattle.bus_law_messages.specs.FirstPath.{terminal_at, block, block_message, sending_station, receiving_station, block_plan, block_trace, block_world, clear_status, block_attempt}
 use Rattle.bus_law_messages.proofs.Spoken.{left-whole, answer-read}
 use Rattle.bus_law_messages.proofs.StaysSettled.{pause}
 use Rattle.bus_law_messages.proofs.ComesDue.{due-at}
-use Rattle.bus_law_messages.proofs.Answered.{answer-at}
+use Rattle.bus_law_messages.proofs.HowItEnds.{answer-at}
 use Rattle.bus_law_messages.proofs.BlockStarts.{only-two, none-takes, first_entry, course_at, shown-then, settled-then, course-then, left-then, begins-then, block_begun, begun-is, block_order, order-then, obeyed-then}
 
 -- the message that begins

@@ -1,15 +1,15 @@
 -- The smallest plan with a message, to the tick in which its command starts, and what the laws want to know of that moment.
-use Rattle.std.proofs.Common.{◌≡◌, ◌≢◌, ℕ, zero, suc, ◌+◌, ◌<◌, ◌≤◌, Bool, true, false, List, [], ◌∷◌, ◌++◌, length, map, Option, Some, None, refl, sym, ap, ◌∙◌, arith, All}
+use Rattle.std.proofs.Common.{◌≡◌, ◌≢◌, ℕ, zero, suc, ◌<◌, Bool, true, false, List, [], ◌∷◌, ◌++◌, length, map, Some, None, refl, sym, ap, ◌∙◌, arith}
 use Rattle.std.proofs.lemmas.List.Elements.{All-nil, All-cons}
 use Rattle.std.proofs.lemmas.Option.{none-some, same_Some}
 use Rattle.std.specs.Prelude.{slice_get, get_or}
 use Rattle.bus_base.specs.declared.samples.Channel.{Channel}
-use Rattle.bus_base.specs.declared.samples.Channel.TheVariants.{A, B}
+use Rattle.bus_base.specs.declared.samples.Channel.TheVariants.{A}
 use Rattle.bus_base.specs.declared.samples.Pair.{Pair}
 use Rattle.bus_formats.specs.Accepted.{AreWords, HasReceiveRanges}
 use Rattle.bus_formats.specs.Forms.{data_word, command_words}
 use Rattle.bus_formats.specs.Plans.{StationData}
-use Rattle.bus_model.specs.Memory.{Memory, first_memory}
+use Rattle.bus_model.specs.Memory.{first_memory}
 use Rattle.bus_model.specs.Orders.{Order, last_order, owes, Obeyed, obey}
 use Rattle.bus_model.specs.Standing.{Standing}
 use Rattle.bus_model.specs.Starts.{Entry, agenda, start_of, starts}
@@ -17,12 +17,12 @@ use Rattle.bus_model.specs.Terminal.{standing, standing_after}
 use Rattle.bus_model.specs.Attempts.{Begun}
 use Rattle.bus_model.specs.Course.{Course, course, at_first, quiet_from}
 use Rattle.bus_model.specs.Control.{so_far, course_after, hearing_after}
-use Rattle.bus_model.specs.World.{trace, ticks_on}
+use Rattle.bus_model.specs.World.{ticks_on}
 use Rattle.bus_law_stations.specs.Silence.{quiet_pairs}
 use Rattle.bus_law_stations.specs.Messages.{BeginsMessage, message_begun}
 use Rattle.bus_law_messages.specs.Settled.{Settled, NoneTakes, NoneStarts}
 use Rattle.bus_law_messages.specs.Ends.{burst_sent}
-use Rattle.bus_law_messages.specs.Addressed.{with_data, order_in}
+use Rattle.bus_law_messages.specs.Addressed.{with_data}
 use Rattle.bus_law_messages.specs.FirstPath.{terminal_at, block, block_message, block_item, sending_station, receiving_station, block_plan, block_trace, block_world, clear_status}
 use Rattle.bus_law_messages.proofs.Beginning.{begins-settled}
 use Rattle.bus_law_messages.proofs.Sending.{shown-long}

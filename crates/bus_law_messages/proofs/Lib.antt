@@ -25,3 +25,4 @@ pub mod BlockRuns
 pub mod Midway
 pub mod Silenced
 pub mod Unheard
+pub mod HowItEnds

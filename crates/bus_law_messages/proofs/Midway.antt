@@ -1,11 +1,11 @@
 -- The moment in which a command's end is known, and its message waits for an answer.
-use Rattle.std.proofs.Common.{◌≡◌, ◌≢◌, inl, ℕ, suc, ◌+◌, ◌*◌, ◌≤◌, Bool, true, false, List, ◌++◌, length, Some, None, sym, ap, ◌∙◌, subst, arith, length-append}
+use Rattle.std.proofs.Common.{◌≡◌, inl, ℕ, suc, ◌+◌, ◌*◌, ◌≤◌, true, false, List, ◌++◌, length, Some, sym, ap, ◌∙◌, subst, arith, length-append}
 use Rattle.std.proofs.lemmas.Option.{same_Some, none-some}
 use Rattle.bus_base.specs.declared.samples.Channel.{Channel}
 use Rattle.bus_base.specs.declared.samples.Drive.{Drive}
 use Rattle.bus_base.specs.declared.samples.Pair.{Pair}
 use Rattle.bus_base.specs.declared.samples.Sample.{Sample}
-use Rattle.bus_line.specs.Past.{Burst, runs, end_of}
+use Rattle.bus_line.specs.Past.{runs, end_of}
 use Rattle.bus_line.specs.Channels.{on_channel}
 use Rattle.bus_line.proofs.ChannelLaws.{on-append}
 use Rattle.bus_formats.specs.Forms.{answers_of, command_words}

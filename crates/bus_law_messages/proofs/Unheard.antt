@@ -1,5 +1,5 @@
 -- A message that nobody answers, from its start to the settled moment after it.
-use Rattle.std.proofs.Common.{◌≡◌, ◌≢◌, inl, inr, ℕ, zero, suc, ◌+◌, ◌*◌, ◌<◌, ◌≤◌, Bool, true, false, List, ◌++◌, length, Some, None, sym, ap, ◌∙◌, subst, arith, length-append}
+use Rattle.std.proofs.Common.{◌≡◌, ◌≢◌, inl, inr, ℕ, zero, suc, ◌+◌, ◌*◌, ◌<◌, true, List, ◌++◌, length, Some, sym, ap, ◌∙◌, subst, arith, length-append}
 use Rattle.std.proofs.lemmas.Bool.{cases_eq}
 use Rattle.std.specs.Prelude.{slice_get, ◌==◌}
 use Rattle.bus_base.specs.declared.samples.Channel.{Channel}
@@ -25,9 +25,8 @@ use Rattle.bus_model.specs.World.{Trace, trace, is_present, drives_after, ticks_
 use Rattle.bus_law_line.specs.Senders.{IsSpent, LeftAlone}
 use Rattle.bus_law_line.proofs.Sent.{left-spent}
 use Rattle.bus_law_stations.specs.Silence.{quiet_pairs}
-use Rattle.bus_law_stations.specs.Messages.{BeginsMessage, message_begun, with_running}
+use Rattle.bus_law_stations.specs.Messages.{BeginsMessage, message_begun}
 use Rattle.bus_law_stations.proofs.Resting.{rests-quiet}
-use Rattle.bus_law_stations.proofs.StillController.{pairs-long}
 use Rattle.bus_law_messages.specs.Settled.{IsServing, Settled, NoneTakes}
 use Rattle.bus_law_messages.specs.Commands.{LeavesWhole}
 use Rattle.bus_law_messages.specs.Ends.{burst_sent, CommandOver, IsUnanswered}
@@ -36,7 +35,7 @@ use Rattle.bus_law_messages.proofs.Sending.{place-silent, place-drives, shown-lo
 use Rattle.bus_law_messages.proofs.Over.{over-at}
 use Rattle.bus_law_messages.proofs.Unanswered.{serving-again, trace-later}
 use Rattle.bus_law_messages.proofs.Pausing.{on-quiet, holder-silent, serving-still, serving-quiet, paused, undriven-still}
-use Rattle.bus_law_messages.proofs.Midway.{Waits, waits-on, mid, end, mid-long, rests-over, mid-rests, mid-spent, mid-undriven, mid-waits}
+use Rattle.bus_law_messages.proofs.Midway.{Waits, waits-on, mid-long, rests-over, mid-rests, mid-spent, mid-undriven, mid-waits}
 use Rattle.bus_law_messages.proofs.Silenced.{no_answer, silenced-silent, silenced-course}
 
 module _ (k : ℕ) (plan : PlanData) (loads : List TimedLoad) (outside : List OutsideTake) (absent : List ℕ) (before : Trace) (place : ℕ)

@@ -1,29 +1,43 @@
--- The station in control while the first answer runs, and where its end becomes known: a good answer, the only one, ends the message Clear.
-use Rattle.std.proofs.Common.{◌≡◌, inl, ℕ, ◌+◌, Bool, false, List, [], ◌∷◌, ◌++◌, length, Some, None, ap, ◌∙◌, arith, length-append}
-use Rattle.std.specs.Prelude.{drop, ◌==◌}
+-- The station in control while the first answer runs, and where its end becomes known, if that ends the message and control is kept.
+use Rattle.std.proofs.Common.{◌≡◌, inl, ℕ, ◌+◌, Bool, false, List, [], ◌∷◌, ◌++◌, length, Some, ap, ◌∙◌, arith, length-append}
+use Rattle.std.proofs.lemmas.Bool.{true≢false}
+use Rattle.std.specs.Prelude.{drop, ◌&&◌, ◌==◌}
 use Rattle.bus_base.specs.declared.samples.Drive.TheVariants.{Silent}
 use Rattle.bus_base.specs.declared.samples.Pair.{Pair}
 use Rattle.bus_base.specs.declared.samples.Part.TheVariants.{First}
 use Rattle.bus_base.specs.declared.samples.Sample.{Sample}
 use Rattle.bus_line.specs.Past.{Burst, runs, rest_of, ended_now}
 use Rattle.bus_line.specs.Channels.{on_channel}
-use Rattle.bus_formats.specs.Forms.{answers_of}
 use Rattle.bus_formats.specs.Plans.{StationData}
 use Rattle.bus_formats.specs.Readings.{read_answer}
-use Rattle.bus_formats.specs.declared.form.Reading.TheVariants.{Good}
+use Rattle.bus_formats.specs.declared.form.Outcome.{Outcome}
+use Rattle.bus_formats.specs.declared.form.Outcome.TheVariants.{Clear, Sent, Declined, Passed, Illegal, Busy, NoResponse, BadReply, Abandoned, Yielded}
 use Rattle.bus_model.specs.Memory.{TimedLoad}
-use Rattle.bus_model.specs.Attempts.{Begun}
-use Rattle.bus_model.specs.Controller.{first_read, good_ending}
-use Rattle.bus_model.specs.Course.{Course, course, close, close_or_run}
-use Rattle.bus_model.specs.Control.{OutsideTake, yielded_in, so_far, course_after, drives_next}
+use Rattle.bus_model.specs.Attempts.{Begun, Ended}
+use Rattle.bus_model.specs.Controller.{first_read}
+use Rattle.bus_model.specs.Course.{Course, course, gives, close, close_or_run}
+use Rattle.bus_model.specs.Control.{OutsideTake, is_yielded, yielded_in, so_far, course_after, drives_next}
 use Rattle.bus_law_stations.specs.Messages.{ShowsBurst}
 use Rattle.bus_law_stations.specs.Turns.{KeepsControl}
 use Rattle.bus_law_stations.proofs.Reading.{answer-runs, answer-silent, first-is-read}
 use Rattle.bus_law_stations.proofs.StillStation.{always-taken}
 use Rattle.bus_law_stations.proofs.Turning.{holding-course, holding-sends}
-use Rattle.bus_law_messages.specs.Answers.{IsWaiting, clear_with}
+use Rattle.bus_law_messages.specs.Answers.{IsWaiting}
 use Rattle.bus_law_messages.proofs.Closing.{and-not}
 use Rattle.bus_law_messages.proofs.Running.{RunsAlone}
+
+-- a message that keeps control isn't yielded
+pub not-yielded : (b : Bool) (outcome : Outcome) → gives outcome ≡ false → (b && is_yielded outcome) ≡ false
+not-yielded b Clear kept = and-not b
+not-yielded b Sent kept = and-not b
+not-yielded b Declined kept = and-not b
+not-yielded b Passed kept = and-not b
+not-yielded b (Illegal part) kept = and-not b
+not-yielded b (Busy part) kept = and-not b
+not-yielded b (NoResponse part) kept = and-not b
+not-yielded b (BadReply part) kept = and-not b
+not-yielded b Abandoned kept = and-not b
+not-yielded b Yielded kept = absurd (true≢false kept)
 
 module _ (k : ℕ) (station : StationData) (starts : Bool) (loads : List TimedLoad) (outside : List OutsideTake) (past : List Pair) (begun : Begun) (e : ℕ)
     (waits : IsWaiting k begun (course_after k station starts loads outside past) past e)
@@ -62,27 +76,26 @@ module _ (k : ℕ) (station : StationData) (starts : Bool) (loads : List TimedLo
       ∙ answer-silent k station starts (so_far k station starts loads outside past).takes past begun e (always-taken k station starts loads outside past)
       waits.answered (inl waits.awaits) ticks (shows ticks alone)
 
-  module _ (x : Pair) (ticks : List Pair) (burst : Burst) (status : ℕ) (alone : RunsAlone k begun.state.channel ticks)
+  -- the end of the answer is read, and ends the message so; control is kept
+  module _ (x : Pair) (ticks : List Pair) (burst : Burst) (ending : Ended) (alone : RunsAlone k begun.state.channel ticks)
       (ended : ended_now k (on_channel begun.state.channel (x ∷ (ticks ++ past))) ≡ Some burst)
-      (good : read_answer begun.entry.item.kind First burst.slots (rest_of burst) ≡ Good status)
-      (only : (answers_of begun.entry.item.kind).second ≡ None) where
-    end-clear : later (x ∷ ticks) ≡ close c begun (clear_with begun burst status) (length (ticks ++ past))
-    end-clear =
+      (reads : (shown : List Pair) (heard : List Sample) →
+      first_read k begun.entry.item shown heard burst (read_answer begun.entry.item.kind First burst.slots (rest_of burst)) ≡ Some ending)
+      (kept : gives ending.outcome ≡ false) where
+    end-read : later (x ∷ ticks) ≡ close c begun ending (length (ticks ++ past))
+    end-read =
         let shown = x ∷ (ticks ++ past) in
         first-is-read k station starts (so_far k station starts loads outside past).takes past begun e (always-taken k station starts loads outside past)
         waits.answered waits.awaits ticks x burst (shows ticks alone) ended
-        ∙ ap (λ r. close_or_run c begun (length (ticks ++ past))
-        (first_read k begun.entry.item shown (on_channel begun.state.channel shown) burst r)) good
-        ∙ ap (λ o. close_or_run c begun (length (ticks ++ past))
-        (good_ending k begun.entry.item shown (on_channel begun.state.channel shown) status burst o)) only
+        ∙ ap (close_or_run c begun (length (ticks ++ past))) (reads shown (on_channel begun.state.channel shown))
 
     end-keeps : KeepsControl k station starts loads outside past (x ∷ ticks)
     end-keeps = (
       ap (λ (d : Course). d.holds) (same ticks alone) ∙ waits.holds,
-      ap (λ (d : Course). yielded_in (length (ticks ++ past)) d.ended) end-clear ∙ and-not (length (ticks ++ past) == length (ticks ++ past)),
+      ap (λ (d : Course). yielded_in (length (ticks ++ past)) d.ended) end-read
+          ∙ not-yielded (length (ticks ++ past) == length (ticks ++ past)) ending.outcome kept,
       keeps ticks alone,
     )
 
-    pub clear-course : course_after k station starts loads outside ((x ∷ ticks) ++ past)
-        ≡ close c begun (clear_with begun burst status) (length (ticks ++ past))
-    clear-course = holding-course k station starts loads outside past (x ∷ ticks) end-keeps ∙ end-clear
+    pub read-course : course_after k station starts loads outside ((x ∷ ticks) ++ past) ≡ close c begun ending (length (ticks ++ past))
+    read-course = holding-course k station starts loads outside past (x ∷ ticks) end-keeps ∙ end-read

@@ -4,3 +4,4 @@ pub mod Ends
 pub mod Answers
 pub mod Addressed
 pub mod FirstPath
+pub mod AnswerRead

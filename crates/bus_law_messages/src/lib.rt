@@ -18,7 +18,7 @@ pub use duties::{
     a_message_without_answer_is_unanswered, a_receive_command_is_answered_by_a_status,
     a_status_has_its_terminals_address, what_is_for_one_leaves_nothing_of_the_others,
 };
-pub use endings::an_unanswered_message_ends_without_response;
+pub use endings::{an_answer_ends_its_message, an_unanswered_message_ends_without_response};
 pub use first_path::a_block_is_sent_taken_and_cleared;
 pub use pauses::{the_world_begins_settled, the_world_pauses_until_a_message_starts};
 pub use shapes::{
