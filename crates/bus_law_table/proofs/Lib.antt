@@ -1,0 +1,12 @@
+pub mod Loads
+pub mod Pairing
+pub mod OneStation
+pub mod Ticks
+pub mod Unstruck
+pub mod Takes
+pub mod AllStations
+pub mod Kept
+pub mod Closed
+pub mod CommandEnd
+pub mod SentTold
+pub mod SentAt

@@ -1,0 +1,150 @@
+-- A terminal takes no block in the ticks before a burst's end is known, nor while its station holds control.
+use Rattle.std.proofs.Common.{◌≡◌, ℕ, suc, ◌+◌, ◌<◌, ◌≤◌, Bool, false, List, [], ◌∷◌, ◌++◌, length, None, refl, sym, ap, ◌∙◌, arith, length-append}
+use Rattle.std.proofs.lemmas.Bool.{true≢false}
+use Rattle.bus_base.specs.Samples.{sample_on, other_of}
+use Rattle.bus_base.specs.declared.samples.Channel.{Channel}
+use Rattle.bus_base.specs.declared.samples.Pair.{Pair}
+use Rattle.bus_line.specs.Past.{InLeg, quiet_ticks, ended_now}
+use Rattle.bus_line.specs.Channels.{on_channel}
+use Rattle.bus_formats.specs.Plans.{TerminalData, StationData}
+use Rattle.bus_model.specs.Memory.{Memory, TimedLoad, with_loads}
+use Rattle.bus_model.specs.Hearing.{Moment, Hearing, heard_on}
+use Rattle.bus_model.specs.Standing.{Standing, at_rest}
+use Rattle.bus_model.specs.Terminal.{order_of, order_now, standing, standing_after, taken_by, took_now, memory_after}
+use Rattle.bus_model.specs.Control.{OutsideTake, StationSoFar, unheard, unheard_ticks, moment_of, outside_takes, course_after, hearing_after, keeps}
+use Rattle.bus_law_stations.specs.Legs.{with_addressed, HearsBurst, IsReady}
+use Rattle.bus_law_stations.specs.Silence.{quiet_moments, NothingDue}
+use Rattle.bus_law_stations.specs.Turns.{moments_of, KeepsControl}
+use Rattle.bus_law_stations.proofs.LegTicks.{heard-append, leg-ends-not}
+use Rattle.bus_law_stations.proofs.Obeying.{running-marks}
+use Rattle.bus_law_stations.proofs.Ready.{orders-none, order-other, ready-heeded, order-heeded, ready-running}
+use Rattle.bus_law_stations.proofs.StillTerminal.{still-stands, still-takes}
+use Rattle.bus_law_stations.proofs.Turning.{serving-hears, holding-hears}
+use Rattle.bus_law_messages.specs.Settled.{IsServing}
+use Rattle.bus_law_messages.proofs.Listening.{free-ready, free-hears, serving-nothing, shown-leg, shown-quiet}
+use Rattle.bus_law_table.specs.Stations.{HeardNothing}
+use Rattle.bus_law_table.proofs.Loads.{loaded-alike}
+
+-- ---- while a burst runs
+
+leg-takes : (k : ℕ) (t : TerminalData) (loads : List TimedLoad) (memory : Memory) (c : Channel) (heard ticks : List Moment) (now : Moment) → k < 40 →
+    IsReady k t (standing k t loads memory heard) c heard → HearsBurst k t (standing k t loads memory heard) c heard (now ∷ ticks) →
+    took_now k t loads record { memory = memory; ticks = now ∷ (ticks ++ heard) } ≡ None
+leg-takes k t loads memory c heard ticks now small ready hears =
+    let s = standing k t loads memory heard in
+    let past = ticks ++ heard in
+    let m = running-marks k t loads memory c heard ticks small ready record { rests = hears.rests; leg = hears.leg.2; beside = hears.beside.1 } in
+    let u = with_addressed s c m.0 in
+    let ends : ended_now k (heard_on c (now ∷ (ticks ++ heard))) ≡ None =
+    ap (ended_now k) (heard-append c (now ∷ ticks) heard) ∙ leg-ends-not k (sample_on now.shown c) (heard_on c ticks) (heard_on c heard) hears.leg in
+    ap (λ (v : Standing). taken_by k t loads (length past) now.may v (order_now k t (now ∷ past) v)) m.1
+    ∙ ap (taken_by k t loads (length past) now.may u)
+    (orders-none k t u c (now ∷ past)
+    (order-heeded k t s c m.0 now past (ready-heeded k t s c heard ticks ready) ∙ ap (order_of k t u c) ends)
+    (order-other k t s c m.0 now past (λ promise. (ready.promise promise).0) hears.beside.0)
+    (ready-running k t s c m.0 now heard ticks ready hears.leg))
+
+module _ (k : ℕ) (station : StationData) (starts : Bool) (loads : List TimedLoad) (outside : List OutsideTake) (past : List Pair) where
+  pub serving-takes : (c : Channel) → k < 40 → IsServing k station starts loads outside past → (x : Pair) (ticks : List Pair) →
+      InLeg k (on_channel c (x ∷ ticks)) → on_channel (other_of c) (x ∷ ticks) ≡ quiet_ticks (length (x ∷ ticks)) →
+      ((tick : ℕ) → length past ≤ tick → tick < length past + length (x ∷ ticks) → outside_takes k station starts loads outside tick outside ≡ []) →
+      took_now k station.terminal loads (hearing_after k station starts loads outside ((x ∷ ticks) ++ past)) ≡ None
+  serving-takes c small serving x ticks leg quiet stays =
+      let t = station.terminal in
+      let course = course_after k station starts loads outside past in
+      let hearing = hearing_after k station starts loads outside past in
+      let heard : hearing_after k station starts loads outside ((x ∷ ticks) ++ past)
+      ≡ record { memory = hearing.memory; ticks = moment_of x course ∷ (moments_of course ticks ++ hearing.ticks) } =
+      ap (λ (so : StationSoFar). so.hearing) (serving-hears k station starts loads outside past (x ∷ ticks) serving.serves
+      (serving-nothing k station starts loads outside past c small serving (x ∷ ticks) leg quiet stays)) in
+      let s = standing_after k t loads hearing in
+      ap (took_now k t loads) heard
+      ∙ leg-takes k t loads hearing.memory c hearing.ticks (moments_of course ticks) (moment_of x course) small
+      (free-ready k t s c hearing.ticks serving.free)
+      (free-hears k t s c hearing.ticks (moments_of course (x ∷ ticks)) serving.free
+      (shown-leg k station starts loads outside past c small serving (x ∷ ticks) leg)
+      (shown-quiet k station starts loads outside past c small serving (other_of c) (x ∷ ticks) quiet))
+
+-- ---- while its station holds control
+
+-- ticks that a terminal doesn't hear are quiet ones
+mays : List Pair → List Bool
+mays [] = []
+mays (x ∷ past) = false ∷ mays past
+
+unheard-quiet : (past : List Pair) → unheard_ticks past ≡ quiet_moments (mays past) ++ []
+unfolding mays
+unheard-quiet [] = refl
+unheard-quiet (x ∷ past) = ap (λ ms. unheard ∷ ms) (unheard-quiet past)
+
+nothing-due : (k : ℕ) (t : TerminalData) (memory : Memory) (n : ℕ) → NothingDue k t (at_rest memory) [] n
+nothing-due k t memory n = record {
+  rests_a = refl;
+  rests_b = refl;
+  answer = λ owed. absurd (true≢false (sym owed));
+  promise = λ made. absurd (true≢false (sym made));
+}
+
+unheard-stands : (k : ℕ) (t : TerminalData) (loads : List TimedLoad) (memory : Memory) (past : List Pair) →
+    standing k t loads memory (unheard_ticks past) ≡ at_rest memory
+unfolding standing
+unheard-stands k t loads memory past =
+    ap (standing k t loads memory) (unheard-quiet past)
+    ∙ still-stands k t loads memory [] (mays past) (nothing-due k t memory (length (mays past)))
+
+unheard-long : (past : List Pair) → length (unheard_ticks past) ≡ length past
+unheard-long [] = refl
+unheard-long (x ∷ past) = ap suc (unheard-long past)
+
+unheard-append : (ticks past : List Pair) → unheard_ticks ticks ++ unheard_ticks past ≡ unheard_ticks (ticks ++ past)
+unheard-append [] past = refl
+unheard-append (x ∷ ticks) past = ap (λ ms. unheard ∷ ms) (unheard-append ticks past)
+
+module _ (k : ℕ) (station : StationData) (starts : Bool) (loads : List TimedLoad) (outside : List OutsideTake) where
+  abbrev hearing : List Pair → Hearing
+  hearing past = hearing_after k station starts loads outside past
+
+  abbrev keeps_at : List Pair → Memory
+  keeps_at past = keeps k station starts loads outside past
+
+  -- it took no block in the newest tick
+  pub unheard-takes : (x : Pair) (past : List Pair) → HeardNothing k station starts loads outside (x ∷ past) →
+      took_now k station.terminal loads (hearing (x ∷ past)) ≡ None
+  unfolding standing mays
+  unheard-takes x past nothing =
+      ap (λ ms. took_now k station.terminal loads record { memory = (hearing (x ∷ past)).memory; ticks = ms }) (nothing ∙ unheard-quiet (x ∷ past))
+      ∙ still-takes k station.terminal loads (hearing (x ∷ past)).memory [] false (mays past)
+      (nothing-due k station.terminal (hearing (x ∷ past)).memory (suc (length (mays past))))
+
+  -- it keeps what it kept, with the loads since then
+  pub unheard-keeps : (past : List Pair) → HeardNothing k station starts loads outside past →
+      keeps_at past ≡ with_loads station.terminal.address (length past) loads (hearing past).memory
+  unheard-keeps past nothing =
+      ap (λ ms. memory_after k station.terminal loads record { memory = (hearing past).memory; ticks = ms }) nothing
+      ∙ ap (λ n. with_loads station.terminal.address n loads (standing k station.terminal loads (hearing past).memory (unheard_ticks past)).memory)
+      (unheard-long past)
+      ∙ ap (λ (s : Standing). with_loads station.terminal.address (length past) loads s.memory)
+      (unheard-stands k station.terminal loads (hearing past).memory past)
+
+  module _ (past ticks : List Pair) (nothing : HeardNothing k station starts loads outside past)
+      (controls : KeepsControl k station starts loads outside past ticks) where
+    same-memory : (hearing (ticks ++ past)).memory ≡ (hearing past).memory
+    same-memory = ap (λ (so : StationSoFar). so.hearing.memory) (holding-hears k station starts loads outside past ticks controls)
+
+    -- it hears nothing while control is kept
+    pub unheard-on : HeardNothing k station starts loads outside (ticks ++ past)
+    unheard-on =
+        ap (λ (so : StationSoFar). so.hearing.ticks) (holding-hears k station starts loads outside past ticks controls)
+        ∙ ap (λ ms. unheard_ticks ticks ++ ms) nothing
+        ∙ unheard-append ticks past
+
+    -- a memory of the table that is its own before is so then
+    pub unheard-alike : (memory : Memory) →
+        with_loads station.terminal.address (length past) loads memory ≡ keeps_at past →
+        with_loads station.terminal.address (length (ticks ++ past)) loads memory ≡ keeps_at (ticks ++ past)
+    unheard-alike memory same =
+        let long : length (ticks ++ past) ≡ length ticks + length past = length-append ticks past in
+        loaded-alike station.terminal.address (length past) (length (ticks ++ past)) loads memory (hearing past).memory (omega (arith, long))
+        (same ∙ unheard-keeps past nothing)
+        ∙ ap (with_loads station.terminal.address (length (ticks ++ past)) loads) (sym same-memory)
+        ∙ sym (unheard-keeps (ticks ++ past) unheard-on)

@@ -1,0 +1,7 @@
+//! The world does what the message table says of one message: the fourth of the laws of the world. Laws alone, each the contract of an empty function,
+//! over the world of any plan, from a settled moment of the world to the next.
+#![tactic(auto)]
+
+pub mod messages;
+
+pub use messages::a_message_without_answer_is_told;
