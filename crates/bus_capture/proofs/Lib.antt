@@ -2,3 +2,4 @@ pub mod ReaderLaws
 pub mod WriterLaws
 pub mod RoundTrip
 pub mod QuietLaws
+pub mod FrontLaws

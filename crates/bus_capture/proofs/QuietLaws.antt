@@ -1,16 +1,13 @@
 -- Quiet ticks in a text are read at once as they are byte by byte.
 use Rattle.std.proofs.Common.{◌≡◌, ℕ, zero, suc, ◌+◌, ◌≤◌, List, [], ◌∷◌, ◌++◌, length, reverse, refl, ap, sym, subst, ◌∙◌, arith, length-append}
-use Rattle.std.specs.Prelude.{Option, Some, None, ◌-◌, ◌^◌, min, ◌==◌, ◌&&◌, if◌then◌else◌, Bool, true, false, take, drop}
-use Rattle.std.proofs.lemmas.List.{reverse-append, append_assoc, length-reverse, take_rest, length-drop}
+use Rattle.std.specs.Prelude.{◌-◌, ◌^◌, min, ◌==◌, ◌&&◌, if◌then◌else◌, Bool, true, false, take, drop}
+use Rattle.std.proofs.lemmas.List.{reverse-append, append_assoc, length-reverse, take_rest, length-drop, length-take}
 use Rattle.std.proofs.lemmas.Bool.Decides.{nat_tests}
 use Rattle.std.proofs.Math.Seq.{take-add}
-use Rattle.bus_base.specs.declared.samples.Sample.{Sample}
-use Rattle.bus_base.specs.declared.samples.Sample.TheVariants.{Plus, Minus, Quiet}
+use Rattle.bus_base.specs.declared.samples.Sample.TheVariants.{Quiet}
 use Rattle.bus_base.specs.declared.samples.Pair.{Pair}
-use Rattle.std.proofs.lemmas.Grind.{common_steps}
-use Rattle.bus_capture.specs.Captures.{sample_byte}
-use Rattle.bus_capture.specs.Readings.{place_after, ticks_in, text_limit, sample_of}
-use Rattle.bus_capture.specs.Quiet.{quiet_pairs, ReadsQuiet, TakesTick, IsStep, step_in, run_of, pair_of, tick_front, is_stop, four_quiet}
+use Rattle.bus_capture.specs.Readings.{place_after, ticks_in, text_limit}
+use Rattle.bus_capture.specs.Quiet.{quiet_pairs, ReadsTicks, ReadsQuiet, IsStep, step_in, run_of, is_stop, are_stops, four_quiet}
 use Rattle.bus_capture.specs.declared.reader.QuietRun.{QuietRun}
 use Rattle.bus_capture.specs.declared.reader.Place.TheVariants.{Between}
 use Rattle.bus_capture.specs.Reader.{ReaderStands}
@@ -35,6 +32,22 @@ quiet-tick bytes place begun room =
     pair-step (record { a = Quiet; b = Quiet }) bytes (ticks_in bytes) (record { place = place; ticks = refl; begun = begun }) (omega (arith, room)) in
     (at.place, at.ticks)
 
+-- what is read in two parts is read whole
+pub reads-parts : (front later : List ℕ) (ticks more : List Pair) → ReadsTicks front ticks → ReadsTicks later more → ReadsTicks (front ++ later) (more ++ ticks)
+reads-parts front later ticks more first second bytes place begun room =
+    let long : length (front ++ later) ≡ length front + length later = length-append front later in
+    let middle : (place_after (reverse front ++ bytes) ≡ Between) × (ticks_in (reverse front ++ bytes) ≡ ticks ++ ticks_in bytes) =
+    first bytes place begun (omega (arith, room, long)) in
+    let same : length (reverse front ++ bytes) ≡ length front + length bytes = length-append (reverse front) bytes ∙ ap (λ n. n + length bytes) (length-reverse front) in
+    let last : (place_after (reverse later ++ (reverse front ++ bytes)) ≡ Between)
+    × (ticks_in (reverse later ++ (reverse front ++ bytes)) ≡ more ++ ticks_in (reverse front ++ bytes)) =
+    second (reverse front ++ bytes) middle.0 (omega (arith, begun, same)) (omega (arith, room, long, same)) in
+    let whole : reverse (front ++ later) ++ bytes ≡ reverse later ++ (reverse front ++ bytes) =
+    ap (λ xs. xs ++ bytes) (reverse-append front later) ∙ append_assoc (reverse later) (reverse front) bytes in (
+      rw whole last.0,
+      rw whole (last.1 ∙ ap (λ xs. more ++ xs) middle.1 ∙ sym (append_assoc more ticks (ticks_in bytes))),
+    )
+
 -- quiet ticks after quiet ticks
 quiet-sum : (m n : ℕ) → quiet_pairs m ++ quiet_pairs n ≡ quiet_pairs (n + m)
 quiet-sum zero n = let e : n + 0 ≡ n = omega arith in rw e refl
@@ -42,22 +55,9 @@ quiet-sum (suc m) n =
     let e : n + suc m ≡ suc (n + m) = omega arith in
     rw e (ap (λ xs. record { a = Quiet; b = Quiet } ∷ xs) (quiet-sum m n))
 
--- what is read in two parts is read whole
-pub quiet-parts : (front later : List ℕ) (ticks more : ℕ) → ReadsQuiet front ticks → ReadsQuiet later more → ReadsQuiet (front ++ later) (ticks + more)
-quiet-parts front later ticks more first second bytes place begun room =
-    let long : length (front ++ later) ≡ length front + length later = length-append front later in
-    let middle : (place_after (reverse front ++ bytes) ≡ Between) × (ticks_in (reverse front ++ bytes) ≡ quiet_pairs ticks ++ ticks_in bytes) =
-    first bytes place begun (omega (arith, room, long)) in
-    let same : length (reverse front ++ bytes) ≡ length front + length bytes = length-append (reverse front) bytes ∙ ap (λ n. n + length bytes) (length-reverse front) in
-    let last : (place_after (reverse later ++ (reverse front ++ bytes)) ≡ Between)
-    × (ticks_in (reverse later ++ (reverse front ++ bytes)) ≡ quiet_pairs more ++ ticks_in (reverse front ++ bytes)) =
-    second (reverse front ++ bytes) middle.0 (omega (arith, begun, same)) (omega (arith, room, long, same)) in
-    let whole : reverse (front ++ later) ++ bytes ≡ reverse later ++ (reverse front ++ bytes) =
-    ap (λ xs. xs ++ bytes) (reverse-append front later) ∙ append_assoc (reverse later) (reverse front) bytes in (
-      rw whole last.0,
-      rw whole (last.1 ∙ ap (λ xs. quiet_pairs more ++ xs) middle.1 ∙ sym (append_assoc (quiet_pairs more) (quiet_pairs ticks) (ticks_in bytes))
-          ∙ ap (λ xs. xs ++ ticks_in bytes) (quiet-sum more ticks)),
-    )
+quiet-parts : (front later : List ℕ) (ticks more : ℕ) → ReadsQuiet front ticks → ReadsQuiet later more → ReadsQuiet (front ++ later) (ticks + more)
+quiet-parts front later ticks more first second =
+    subst (λ pairs. ReadsTicks (front ++ later) pairs) (quiet-sum more ticks) (reads-parts front later (quiet_pairs ticks) (quiet_pairs more) first second)
 
 nothing : (piece : List ℕ) → IsStep piece (run_of 0 0)
 nothing piece = record { within = omega arith; few = omega arith; reads = quiet-none }
@@ -94,6 +94,26 @@ quiet-four : ReadsQuiet (46 ∷ 46 ∷ 46 ∷ 46 ∷ 46 ∷ 46 ∷ 46 ∷ 46 ∷
 quiet-four =
     let two : ReadsQuiet (46 ∷ 46 ∷ 46 ∷ 46 ∷ []) 2 = quiet-parts (46 ∷ 46 ∷ []) (46 ∷ 46 ∷ []) 1 1 quiet-tick quiet-tick in
     quiet-parts (46 ∷ 46 ∷ 46 ∷ 46 ∷ []) (46 ∷ 46 ∷ 46 ∷ 46 ∷ []) 2 2 two two
+
+stops-quiet : (n : ℕ) (bytes : List ℕ) → length bytes ≡ n + n → are_stops bytes ≡ true → ReadsQuiet bytes n
+stops-quiet zero [] long is = quiet-none
+stops-quiet zero (a ∷ bytes) long is = absurd (omega (arith, long))
+stops-quiet (suc n) [] long is = absurd (omega (arith, long))
+stops-quiet (suc n) (a ∷ []) long is = absurd (omega (arith, long))
+stops-quiet (suc n) (a ∷ b ∷ rest) long is =
+    let first : (is_stop a ≡ true) × ((is_stop b && are_stops rest) ≡ true) = both (is_stop a) (is_stop b && are_stops rest) is in
+    let second : (is_stop b ≡ true) × (are_stops rest ≡ true) = both (is_stop b) (are_stops rest) first.1 in
+    let later : ReadsQuiet rest n = stops-quiet n rest (omega (arith, long)) second.1 in
+    let e : 1 + n ≡ suc n = omega arith in
+    rw (stop-is a first.0, stop-is b second.0)
+    (subst (λ k. ReadsQuiet (46 ∷ 46 ∷ rest) k) e (quiet-parts (46 ∷ 46 ∷ []) rest 1 n quiet-tick later))
+
+-- full stops alone are read as quiet ticks
+pub stops-are : (piece : List ℕ) (bytes ticks : ℕ) → bytes ≡ ticks + ticks → bytes ≤ length piece → are_stops (take bytes piece) ≡ true →
+    IsStep piece (run_of bytes ticks)
+stops-are piece bytes ticks two within is =
+    let long : length (take bytes piece) ≡ min bytes (length piece) = length-take bytes piece in
+    record { within = within; few = omega (arith, two); reads = stops-quiet ticks (take bytes piece) (omega (arith, long, two, within)) is }
 
 -- four quiet ticks are read
 pub four-is : (piece : List ℕ) → four_quiet piece ≡ true → IsStep piece (run_of 8 4)
@@ -133,87 +153,42 @@ taken-more piece bytes ticks next within few reads is =
       reads = rw (take-add bytes next.bytes piece) (quiet-parts (take bytes piece) (take next.bytes (drop bytes piece)) ticks next.ticks reads step.reads);
     }
 
-long-quiet : (n : ℕ) → length (quiet_pairs n) ≡ n
+pub long-quiet : (n : ℕ) → length (quiet_pairs n) ≡ n
 long-quiet zero = refl
 long-quiet (suc n) = ap suc (long-quiet n)
 
--- what a front of quiet ticks leaves
-pub record IsSkipped (front bytes : List ℕ) (ticks : ℕ) : Type 0 where
+-- what a front of ticks leaves
+pub record IsTaken (front bytes : List ℕ) (ticks : List Pair) : Type 0 where
   pub place : place_after (reverse front ++ bytes) ≡ place_after bytes
-  pub ticks_are : ticks_in (reverse front ++ bytes) ≡ quiet_pairs ticks ++ ticks_in bytes
+  pub ticks_are : ticks_in (reverse front ++ bytes) ≡ ticks ++ ticks_in bytes
 
 -- a reader between two ticks takes them
-pub skips : (r : CaptureReader) (front bytes : List ℕ) (ticks : ℕ) → ReaderStands r bytes → r.place ≡ Between → 15 ≤ r.at →
-    r.at + length front ≤ text_limit → ReadsQuiet front ticks → IsSkipped front bytes ticks
-skips r front bytes ticks stands place begun room reads =
+pub takes : (r : CaptureReader) (front bytes : List ℕ) (ticks : List Pair) → ReaderStands r bytes → r.place ≡ Between → 15 ≤ r.at →
+    r.at + length front ≤ text_limit → ReadsTicks front ticks → IsTaken front bytes ticks
+takes r front bytes ticks stands place begun room reads =
     let between : place_after bytes ≡ Between = sym stands.place ∙ place in
     let at : r.at ≡ length bytes = stands.at (rw between refl) in
-    let read : (place_after (reverse front ++ bytes) ≡ Between) × (ticks_in (reverse front ++ bytes) ≡ quiet_pairs ticks ++ ticks_in bytes) =
+    let read : (place_after (reverse front ++ bytes) ≡ Between) × (ticks_in (reverse front ++ bytes) ≡ ticks ++ ticks_in bytes) =
     reads bytes between (omega (arith, begun, at)) (omega (arith, room, at)) in
     record { place = read.0 ∙ sym between; ticks_are = read.1 }
 
 -- and stands for them, with its counts of bytes and ticks
-pub reader-skips : (r : CaptureReader) (front bytes : List ℕ) (ticks at more : ℕ) → ReaderStands r bytes → r.place ≡ Between → 15 ≤ r.at →
-    r.at + length front ≤ text_limit → ReadsQuiet front ticks → at ≡ min (r.at + length front) (2 ^ 64 - 1) → more ≡ min (r.ticks + ticks) (2 ^ 64 - 1) →
+pub reader-takes : (r : CaptureReader) (front bytes : List ℕ) (ticks : List Pair) (count at more : ℕ) → ReaderStands r bytes → r.place ≡ Between → 15 ≤ r.at →
+    r.at + length front ≤ text_limit → ReadsTicks front ticks → length ticks ≡ count →
+    at ≡ min (r.at + length front) (2 ^ 64 - 1) → more ≡ min (r.ticks + count) (2 ^ 64 - 1) →
     ReaderStands record { place = r.place; at = at; ticks = more } (reverse front ++ bytes)
-reader-skips r front bytes ticks at more stands place begun room reads at_is more_is =
-    let skipped : IsSkipped front bytes ticks = skips r front bytes ticks stands place begun room reads in
+reader-takes r front bytes ticks count at more stands place begun room reads counted at_is more_is =
+    let taken : IsTaken front bytes ticks = takes r front bytes ticks stands place begun room reads in
     let long : length (reverse front ++ bytes) ≡ length front + length bytes =
     length-append (reverse front) bytes ∙ ap (λ n. n + length bytes) (length-reverse front) in
     let between : place_after bytes ≡ Between = sym stands.place ∙ place in
     let here : r.at ≡ length bytes = stands.at (rw between refl) in
-    let count : length (ticks_in (reverse front ++ bytes)) ≡ ticks + length (ticks_in bytes) =
-    ap length skipped.ticks_are ∙ (length-append (quiet_pairs ticks) (ticks_in bytes) ∙ ap (λ n. n + length (ticks_in bytes)) (long-quiet ticks)) in
+    let all : length (ticks_in (reverse front ++ bytes)) ≡ length ticks + length (ticks_in bytes) =
+    ap length taken.ticks_are ∙ length-append ticks (ticks_in bytes) in
     let few : length (ticks_in (reverse front ++ bytes)) ≤ text_limit = (short (reverse front ++ bytes)).few in
     let were : r.ticks ≡ length (ticks_in bytes) = stands.ticks in
     record {
-      place = stands.place ∙ sym skipped.place;
-      ticks = omega (arith, count, few, were, more_is);
+      place = stands.place ∙ sym taken.place;
+      ticks = omega (arith, all, few, were, counted, more_is);
       at = λ going. omega (arith, long, here, room, at_is);
     }
-
--- ---- one tick
-
--- the byte that writes a sample
-byte-of : (byte : ℕ) (s : Sample) → sample_of byte ≡ Some s → byte ≡ sample_byte s
-byte-of byte Plus is = grind (arith, nat_tests, common_steps, is)
-byte-of byte Minus is = grind (arith, nat_tests, common_steps, is)
-byte-of byte Quiet is = grind (arith, nat_tests, common_steps, is)
-
--- two bytes that are a tick, of which the samples are known
-pair-taken : (r : CaptureReader) (a b : ℕ) (rest bytes : List ℕ) (x y : Option Sample) (shown : Pair) (at ticks : ℕ) → sample_of a ≡ x → sample_of b ≡ y →
-    pair_of x y ≡ Some shown → ReaderStands r bytes → r.place ≡ Between → 15 ≤ r.at → r.at + 2 ≤ text_limit →
-    at ≡ min (r.at + 2) (2 ^ 64 - 1) → ticks ≡ min (r.ticks + 1) (2 ^ 64 - 1) →
-    TakesTick record { place = r.place; at = at; ticks = ticks } (a ∷ b ∷ rest) bytes shown
-pair-taken r a b rest bytes None y shown at ticks one two is s place begun room at_is ticks_is = absurd (cc)
-pair-taken r a b rest bytes (Some x) None shown at ticks one two is s place begun room at_is ticks_is = absurd (cc)
-pair-taken r a b rest bytes (Some x) (Some y) shown at ticks one two is s place begun room at_is ticks_is =
-    let both : record { a = x; b = y } ≡ shown = cc in
-    let first : a ≡ sample_byte x = byte-of a x one in
-    let second : b ≡ sample_byte y = byte-of b y two in
-    let between : place_after bytes ≡ Between = sym s.place ∙ place in
-    let here : r.at ≡ length bytes = s.at (rw between refl) in
-    let read : AtTicks (sample_byte y ∷ sample_byte x ∷ bytes) (record { a = x; b = y } ∷ ticks_in bytes) =
-    pair-step (record { a = x; b = y }) bytes (ticks_in bytes) (record { place = between; ticks = refl; begun = omega (arith, begun, here) }) (omega (arith, room, here)) in
-    let few : length (ticks_in (sample_byte y ∷ sample_byte x ∷ bytes)) ≤ text_limit = (short (sample_byte y ∷ sample_byte x ∷ bytes)).few in
-    let more : length (ticks_in (sample_byte y ∷ sample_byte x ∷ bytes)) ≡ suc (length (ticks_in bytes)) = ap length read.ticks in
-    let were : r.ticks ≡ length (ticks_in bytes) = s.ticks in
-    rw (first, second, sym both) record {
-      whole = omega arith;
-      stands = record {
-        place = place ∙ sym read.place;
-        ticks = omega (arith, few, more, were, ticks_is);
-        at = λ going. omega (arith, here, room, at_is);
-      };
-      ticks_are = read.ticks;
-      between = read.place;
-    }
-
--- the tick at the front of a piece is taken
-pub tick-taken : (r : CaptureReader) (piece bytes : List ℕ) (shown : Pair) (at ticks : ℕ) → tick_front piece ≡ Some shown →
-    ReaderStands r bytes → r.place ≡ Between → 15 ≤ r.at → r.at + 2 ≤ text_limit →
-    at ≡ min (r.at + 2) (2 ^ 64 - 1) → ticks ≡ min (r.ticks + 1) (2 ^ 64 - 1) →
-    TakesTick record { place = r.place; at = at; ticks = ticks } piece bytes shown
-tick-taken r [] bytes shown at ticks is = absurd (cc)
-tick-taken r (a ∷ []) bytes shown at ticks is = absurd (cc)
-tick-taken r (a ∷ b ∷ rest) bytes shown at ticks is = pair-taken r a b rest bytes (sample_of a) (sample_of b) shown at ticks refl refl is

@@ -1,12 +1,11 @@
 -- Ticks at the front of a piece of text: what a reader may take at once.
-use Rattle.std.specs.Prelude.{◌≡◌, ℕ, zero, suc, ◌+◌, ◌≤◌, ◌==◌, ◌&&◌, Bool, false, if◌then◌else◌, List, [], ◌∷◌, ◌++◌, length, reverse, take, Option, Some, None}
+use Rattle.std.specs.Prelude.{◌≡◌, ℕ, zero, suc, ◌+◌, ◌≤◌, ◌==◌, ◌&&◌, Bool, true, false, if◌then◌else◌, List, [], ◌∷◌, ◌++◌, length, reverse, take, Option, Some, None}
 use Rattle.bus_base.specs.declared.samples.Pair.{Pair}
 use Rattle.bus_base.specs.declared.samples.Sample.TheVariants.{Quiet}
 use Rattle.bus_base.specs.declared.samples.Sample.{Sample}
 use Rattle.bus_capture.specs.Readings.{place_after, ticks_in, text_limit, sample_of}
-use Rattle.bus_capture.specs.Reader.{ReaderStands}
-use Rattle.bus_capture.specs.declared.reader.CaptureReader.{CaptureReader}
 use Rattle.bus_capture.specs.declared.reader.Place.TheVariants.{Between}
+use Rattle.bus_capture.specs.declared.reader.FrontRun.{FrontRun}
 use Rattle.bus_capture.specs.declared.reader.QuietRun.{QuietRun}
 
 -- so many ticks in which both channels are quiet
@@ -14,17 +13,20 @@ abbrev pub quiet_pairs : ℕ → List Pair
 quiet_pairs zero = []
 quiet_pairs (suc n) = record { a = Quiet; b = Quiet } ∷ quiet_pairs n
 
--- these bytes, in their order, are so many quiet ticks and line feeds between them, wherever they follow whole ticks in a text
-abbrev pub ReadsQuiet : List ℕ → ℕ → Type 0
-ReadsQuiet front ticks = (bytes : List ℕ) → place_after bytes ≡ Between → 15 ≤ length bytes → length bytes + length front ≤ text_limit →
-    (place_after (reverse front ++ bytes) ≡ Between) × (ticks_in (reverse front ++ bytes) ≡ quiet_pairs ticks ++ ticks_in bytes)
+-- these bytes, in their order, are these ticks, the newest first, and line feeds between them, wherever they follow whole ticks in a text
+abbrev pub ReadsTicks : List ℕ → List Pair → Type 0
+ReadsTicks front ticks = (bytes : List ℕ) → place_after bytes ≡ Between → 15 ≤ length bytes → length bytes + length front ≤ text_limit →
+    (place_after (reverse front ++ bytes) ≡ Between) × (ticks_in (reverse front ++ bytes) ≡ ticks ++ ticks_in bytes)
 
--- a reader took the two bytes of one tick at the front of a piece, after these bytes
-pub record TakesTick (reader : CaptureReader) (piece bytes : List ℕ) (shown : Pair) : Type 0 where
-  pub whole : 2 ≤ length piece
-  pub stands : ReaderStands reader (reverse (take 2 piece) ++ bytes)
-  pub ticks_are : ticks_in (reverse (take 2 piece) ++ bytes) ≡ shown ∷ ticks_in bytes
-  pub between : place_after (reverse (take 2 piece) ++ bytes) ≡ Between
+-- they are so many quiet ticks
+abbrev pub ReadsQuiet : List ℕ → ℕ → Type 0
+ReadsQuiet front ticks = ReadsTicks front (quiet_pairs ticks)
+
+-- a front of a piece that is the front of these ticks, and line feeds
+pub record IsFront (piece : List ℕ) (ticks : List Pair) (run : FrontRun) : Type 0 where
+  pub within : run.bytes ≤ length piece
+  pub room : run.ticks ≤ length ticks
+  pub reads : ReadsTicks (take run.bytes piece) (reverse (take run.ticks ticks))
 
 -- a front of a piece that is quiet ticks and line feeds
 pub record IsStep (piece : List ℕ) (run : QuietRun) : Type 0 where
@@ -36,6 +38,10 @@ pub record IsStep (piece : List ℕ) (run : QuietRun) : Type 0 where
 
 abbrev pub is_stop : ℕ → Bool
 is_stop byte = byte == 46
+
+abbrev pub are_stops : List ℕ → Bool
+are_stops [] = true
+are_stops (byte ∷ bytes) = is_stop byte && are_stops bytes
 
 -- the front is four quiet ticks
 abbrev pub four_quiet : List ℕ → Bool
@@ -51,6 +57,9 @@ pair_of _ _ = None
 abbrev pub tick_front : List ℕ → Option Pair
 tick_front (a ∷ b ∷ rest) = pair_of (sample_of a) (sample_of b)
 tick_front _ = None
+
+abbrev pub front_of : ℕ → ℕ → FrontRun
+front_of bytes ticks = record { bytes = bytes; ticks = ticks }
 
 abbrev pub run_of : ℕ → ℕ → QuietRun
 run_of bytes ticks = record { bytes = bytes; ticks = ticks }

@@ -16,10 +16,10 @@ ghost use Rattle.bus_capture.specs.Readings.{
   ticks_in,
 };
 ghost use Rattle.bus_capture.specs.Reader.{ReaderStands, after_byte};
-ghost use Rattle.bus_capture.specs.Quiet.{quiet_pairs, ReadsQuiet, TakesTick, IsStep, step_in, four_quiet, tick_front};
+ghost use Rattle.bus_capture.specs.Quiet.{quiet_pairs, ReadsQuiet, IsStep, IsFront, step_in, are_stops, four_quiet, tick_front};
 ghost use Rattle.bus_capture.specs.Readings.{text_limit};
 ghost use Rattle.bus_capture.specs.declared.reader.Place.TheVariants.{Between};
-ghost use Rattle.std.specs.Prelude.{IsTrue, MatchOption};
+ghost use Rattle.std.specs.Prelude.{IsTrue, true};
 
 use crate::refusal::CaptureRefusal;
 use bus_base::{Pair, Sample};
@@ -52,6 +52,15 @@ pub struct QuietRun {
     pub bytes: usize,
     /// Their number.
     pub ticks: u64,
+}
+
+/// Ticks at the front of a piece of text.
+#[derive(Clone, Copy, Debug, PartialEq, Eq)]
+pub struct FrontRun {
+    /// The bytes that they take, with the line feeds between them.
+    pub bytes: usize,
+    /// Their number.
+    pub ticks: usize,
 }
 
 /// Reads a capture text byte by byte. It keeps counts and one sample, and takes no memory.
@@ -110,19 +119,25 @@ impl CaptureReader {
         run
     }
 
-    /// Takes the whole tick at the front of a piece of the text, as `push` would take its two bytes. None, and nothing is taken, where the text
-    /// stands elsewhere than between two ticks, or something else comes.
-    pub fn next_tick(&mut self, piece: &[u8]) -> Option<Pair>
-        ensures { MatchOption result (self.new ≡ self.old) (λ shown. (bytes : List ℕ) → ReaderStands self.old bytes →
-            TakesTick self.new piece.now bytes shown) }
+    /// Takes the whole ticks at the front of a piece of the text, with the line feeds between them, as `push` would take them byte by byte, and
+    /// leaves them in the front of `ticks`: as many as come, and no more than there is room for. None where the text stands elsewhere than
+    /// between two ticks, or something else comes.
+    pub fn read_ticks(&mut self, piece: &[u8], ticks: &mut [Pair]) -> FrontRun
+        ensures within { result.bytes ≤ length piece.now }
+        ensures room { result.ticks ≤ length ticks.new }
+        ensures stands { (bytes : List ℕ) → ReaderStands self.old bytes → ReaderStands self.new (reverse (take result.bytes piece.now) ++ bytes) }
+        ensures ticks { (bytes : List ℕ) → ReaderStands self.old bytes →
+            ticks_in (reverse (take result.bytes piece.now) ++ bytes) ≡ reverse (take result.ticks ticks.new) ++ ticks_in bytes }
+        ensures place { (bytes : List ℕ) → ReaderStands self.old bytes →
+            place_after (reverse (take result.bytes piece.now) ++ bytes) ≡ place_after bytes }
     {
-        if !self.stands_between(2) {
-            return None;
+        if !self.stands_between(piece.len()) {
+            return FrontRun { bytes: 0, ticks: 0 };
         }
-        let shown = front_tick(piece)?;
-        self.at = self.at.saturating_add(2);
-        self.ticks = self.ticks.saturating_add(1);
-        Some(shown)
+        let run = front_ticks(piece, ticks);
+        self.at = self.at.saturating_add(run.bytes as u64);
+        self.ticks = self.ticks.saturating_add(run.ticks as u64);
+        run
     }
 
     // Whether it stands between two ticks, and no text of so many bytes more is too long.
@@ -177,14 +192,41 @@ fn quiet_front(piece: &[u8]) -> QuietRun
     QuietRun { bytes, ticks }
 }
 
-// Four quiet ticks at the front of a piece, or less.
+// 32 quiet ticks at the front of a piece, or four, or less.
 fn quiet_part(piece: &[u8]) -> QuietRun
     ensures { IsStep piece.now result }
 {
+    if begins_quiet(piece) {
+        return QuietRun {
+            bytes: 64,
+            ticks: 32,
+        };
+    }
     if are_four_quiet(piece) {
         return QuietRun { bytes: 8, ticks: 4 };
     }
     quiet_step(piece)
+}
+
+// Whether a piece begins with 32 quiet ticks, half a line.
+fn begins_quiet(piece: &[u8]) -> bool
+    ensures { IsTrue result → (64 ≤ length piece.now) × (are_stops (take 64 piece.now) ≡ true) }
+{
+    if piece.len() < 64 {
+        return false;
+    }
+    only_stops(&piece[..64])
+}
+
+// Whether all bytes are full stops. It goes over all of them, many at once.
+fn only_stops(bytes: &[u8]) -> bool
+    ensures { result ≡ are_stops bytes.now }
+{
+    let mut only = true;
+    for byte in bytes {
+        only = only & (*byte == b'.');
+    }
+    only
 }
 
 // Whether a piece begins with four quiet ticks.
@@ -205,7 +247,31 @@ fn quiet_step(piece: &[u8]) -> QuietRun
     }
 }
 
+// The ticks at the front of a piece that begins between two ticks, left in the front of `ticks`.
+fn front_ticks(piece: &[u8], ticks: &mut [Pair]) -> FrontRun
+    ensures { IsFront piece.now ticks.new result }
+{
+    let mut bytes = 0;
+    let mut count = 0;
+    'bytes: while bytes < piece.len() && count < ticks.len() {
+        match front_tick(&piece[bytes..]) {
+            Some(shown) => {
+                ticks[count] = shown;
+                count += 1;
+                bytes += 2;
+            }
+            None if piece[bytes] == b'\n' => bytes += 1,
+            None => break 'bytes,
+        }
+    }
+    FrontRun {
+        bytes,
+        ticks: count,
+    }
+}
+
 // The tick that the first two bytes of a piece are, if they are one.
+#[inline(always)]
 fn front_tick(piece: &[u8]) -> Option<Pair>
     ensures { result ≡ tick_front piece.now }
 {
@@ -218,6 +284,7 @@ fn front_tick(piece: &[u8]) -> Option<Pair>
     }
 }
 
+#[inline(always)]
 fn sample(byte: u8) -> Option<Sample>
     ensures { result ≡ sample_of byte }
 {

@@ -5,7 +5,7 @@ pub mod LineLaws
 pub mod WordLaws
 pub mod QuietLaws
 pub mod IdleLaws
-pub mod ScribeLaws
+pub mod WriterLaws
 pub mod PieceLaws
 pub mod ListLaws
 pub mod OpeningLaws
@@ -15,3 +15,4 @@ pub mod ReadingLaws
 pub mod StepLaws
 pub mod ListerLaws
 pub mod OpenLaws
+pub mod TickLaws

@@ -9,7 +9,7 @@ use Rattle.bus_capture.specs.Readings.{place_after, text_limit}
 use Rattle.bus_capture.specs.Reader.{is_refused}
 use Rattle.bus_capture.proofs.ReaderLaws.{short}
 use Rattle.bus_monitor.specs.declared.listing.Listing.{Listing}
-use Rattle.bus_monitor.specs.declared.scribe.Scribe.{Scribe}
+use Rattle.bus_monitor.specs.declared.listing_writer.ListingWriter.{ListingWriter}
 use Rattle.bus_monitor.specs.Scribes.{Follows, ReadOn, ReadLast, IsListed, EndsSo}
 
 -- as long as no byte was refused, a byte may still come
@@ -27,15 +27,15 @@ room-some piece left room whole some is =
 
 module _ {L : Type 0} (stands : L → List Pair → Type 0) (lines whole : List Pair → List ℕ) (first held : Option (List ℕ)) where
   -- a piece more
-  pub piece-more : (scribe : Scribe L) (before now later : Option (List ℕ)) (input : List ℕ) (left room count : ℕ) → Consumes before now input →
-      left + length input ≡ suc text_limit → room ≤ left → ReadOn stands lines room now later scribe (reverse input) first held count →
-      (input' : List ℕ) × Consumes before later input' × ((left - count) + length input' ≡ suc text_limit) × Follows stands lines scribe (reverse input') first held
-  piece-more scribe before now later input left room count consumed counted fits read =
+  pub piece-more : (writer : ListingWriter L) (before now later : Option (List ℕ)) (input : List ℕ) (left room count : ℕ) → Consumes before now input →
+      left + length input ≡ suc text_limit → room ≤ left → ReadOn stands lines room now later writer (reverse input) first held count →
+      (input' : List ℕ) × Consumes before later input' × ((left - count) + length input' ≡ suc text_limit) × Follows stands lines writer (reverse input') first held
+  piece-more writer before now later input left room count consumed counted fits read =
       let long : length (input ++ read.piece) ≡ length input + length read.piece = length-append input read.piece in (
         input ++ read.piece,
         Consumes-trans before now later input read.piece consumed read.consumed,
         omega (arith, long, read.long, read.fits, fits, counted),
-        subst (λ bytes. Follows stands lines scribe bytes first held) (sym (reverse-append input read.piece)) read.follows,
+        subst (λ bytes. Follows stands lines writer bytes first held) (sym (reverse-append input read.piece)) read.follows,
       )
 
   -- the last piece

@@ -1,4 +1,4 @@
--- What a scribe has read and written: the lines that were made of the ticks, of which the last may still be held back; and what it ends with.
+-- What the writer of a listing has read and written: the lines that were made of the ticks, of which the last may still be held back; and what it ends with.
 use Rattle.std.specs.Prelude.{◌≡◌, ℕ, suc, ◌<◌, ◌≤◌, ◌⊎◌, false, List, ◌++◌, length, reverse, take, Option, Result, Ok, Err}
 use Rattle.std.specs.Io.KnownBytes.{Appends, Consumes, IsAtEnd}
 use Rattle.bus_base.specs.declared.samples.Pair.{Pair}
@@ -8,9 +8,9 @@ use Rattle.bus_capture.specs.Reader.{ReaderStands, is_refused}
 use Rattle.bus_capture.specs.declared.refusal.CaptureRefusal.{CaptureRefusal}
 use Rattle.bus_monitor.specs.declared.listing.Listing.{Listing}
 use Rattle.bus_monitor.specs.declared.listing.Listing.TheVariants as listings
-use Rattle.bus_monitor.specs.declared.scribe.Scribe.{Scribe}
-use Rattle.bus_monitor.specs.declared.scribe.Stop.{Stop}
-use Rattle.bus_monitor.specs.declared.scribe.Stop.TheVariants.{Refused, WriteFault}
+use Rattle.bus_monitor.specs.declared.listing_writer.ListingWriter.{ListingWriter}
+use Rattle.bus_monitor.specs.declared.listing_writer.Stop.{Stop}
+use Rattle.bus_monitor.specs.declared.listing_writer.Stop.TheVariants.{Refused, WriteFault}
 
 -- a text was written after what the sink held first, but for a part that is held back
 pub record Owed (all text : List ℕ) (first held : Option (List ℕ)) : Type 0 where
@@ -29,31 +29,64 @@ pub record FrontWritten (lines : List Pair → List ℕ) (bytes : List ℕ) (fir
   pub parts : bytes ≡ later ++ before
   pub front : GrowsByFront first held (lines (ticks_in before))
 
-module _ {L : Type 0} (stands : L → List Pair → Type 0) (lines : List Pair → List ℕ) (scribe : Scribe L) (bytes : List ℕ) (first held : Option (List ℕ)) where
-  -- the scribe has read these bytes, the newest first, and none was refused
+-- the lines of the first of these ticks, or a front of them, were written
+pub record FrontListed (lines : List Pair → List ℕ) (past : List Pair) (first held : Option (List ℕ)) : Type 0 where
+  pub later : List Pair
+  pub before : List Pair
+  pub parts : past ≡ later ++ before
+  pub front : GrowsByFront first held (lines before)
+
+-- of a text that gets long: it has room again, or a front of it was written
+abbrev pub OwedSo : {T : Type 0} → List ℕ → List ℕ → Option (List ℕ) → Option (List ℕ) → Result T Stop → Type 0
+OwedSo all text first held (Ok _) = Owed all text first held × (length text ≤ 300)
+OwedSo all text first held (Err (Refused refusal)) = ⊥
+OwedSo all text first held (Err WriteFault) = GrowsByFront first held all
+
+module _ {L : Type 0} (stands : L → List Pair → Type 0) (lines : List Pair → List ℕ) (writer : ListingWriter L) (past : List Pair) (first held : Option (List ℕ)) where
+  -- the writer has listed these ticks, the newest first, and its text has room for another tick's lines
+  pub record Lists : Type 0 where
+    pub lister : stands writer.lister past
+    pub written : Owed (lines past) writer.text first held
+    pub room : length writer.text ≤ 300
+
+  -- after more ticks: it went on, or a write failed
+  abbrev pub Listed : {T : Type 0} → Result T Stop → Type 0
+  Listed (Ok _) = Lists
+  Listed (Err (Refused refusal)) = ⊥
+  Listed (Err WriteFault) = FrontListed lines past first held
+
+module _ {L : Type 0} (stands : L → List Pair → Type 0) (lines : List Pair → List ℕ) (writer : ListingWriter L) (bytes : List ℕ) (first held : Option (List ℕ)) where
+  -- the writer has read these bytes, the newest first, and none was refused
   pub record Holds : Type 0 where
-    pub reader : ReaderStands scribe.reader bytes
+    pub reader : ReaderStands writer.reader bytes
     pub going : is_refused (place_after bytes) ≡ false
-    pub lister : stands scribe.lister (ticks_in bytes)
-    pub written : Written lines scribe.text bytes first held
+    pub lister : stands writer.lister (ticks_in bytes)
+    pub written : Written lines writer.text bytes first held
 
   -- and its text has room for another tick's lines
   pub record Follows : Type 0 where
     pub holds : Holds
-    pub room : length scribe.text ≤ 300
+    pub room : length writer.text ≤ 300
 
   -- after more bytes: it went on, or a byte was refused, or a write failed
   abbrev pub Took : {T : Type 0} → Result T Stop → Type 0
   Took (Ok _) = Follows
-  Took (Err (Refused refusal)) = (answer_now bytes ≡ Err refusal) × Written lines scribe.text bytes first held
+  Took (Err (Refused refusal)) = (answer_now bytes ≡ Err refusal) × Written lines writer.text bytes first held
   Took (Err WriteFault) = FrontWritten lines bytes first held
 
 -- after the front of a piece: it went on with so many bytes, or stopped somewhere in the piece
-abbrev pub TookSome : {L : Type 0} → (L → List Pair → Type 0) → (List Pair → List ℕ) → Scribe L → List ℕ → List ℕ → Option (List ℕ) → Option (List ℕ) →
+abbrev pub TookSome : {L : Type 0} → (L → List Pair → Type 0) → (List Pair → List ℕ) → ListingWriter L → List ℕ → List ℕ → Option (List ℕ) → Option (List ℕ) →
     Result ℕ Stop → Type 0
-TookSome stands lines scribe piece bytes first held (Ok count) =
-    (0 < count) × (count ≤ length piece) × Follows stands lines scribe (reverse (take count piece) ++ bytes) first held
-TookSome stands lines scribe piece bytes first held (Err stop) = Took stands lines scribe (reverse piece ++ bytes) first held {T = Unit {0}} (Err stop)
+TookSome stands lines writer piece bytes first held (Ok count) =
+    (0 < count) × (count ≤ length piece) × Follows stands lines writer (reverse (take count piece) ++ bytes) first held
+TookSome stands lines writer piece bytes first held (Err stop) = Took stands lines writer (reverse piece ++ bytes) first held {T = Unit {0}} (Err stop)
+
+-- the same where it may be that nothing was taken
+abbrev pub TookFront : {L : Type 0} → (L → List Pair → Type 0) → (List Pair → List ℕ) → ListingWriter L → List ℕ → List ℕ → Option (List ℕ) → Option (List ℕ) →
+    Result ℕ Stop → Type 0
+TookFront stands lines writer piece bytes first held (Ok count) =
+    (count ≤ length piece) × Follows stands lines writer (reverse (take count piece) ++ bytes) first held
+TookFront stands lines writer piece bytes first held (Err stop) = Took stands lines writer (reverse piece ++ bytes) first held {T = Unit {0}} (Err stop)
 
 -- a write fault has its cause in the count of the sink's faults
 pub record FaultHasCause {T : Type 0} (before now : ℕ) (result : Result T Stop) : Type 0 where
@@ -95,13 +128,13 @@ pub record IsListed (lines whole : List Pair → List ℕ) (before left first he
 
 -- one piece that was read and taken
 pub record ReadOn {L : Type 0} (stands : L → List Pair → Type 0) (lines : List Pair → List ℕ) (room : ℕ) (before left : Option (List ℕ))
-    (scribe : Scribe L) (bytes : List ℕ) (first held : Option (List ℕ)) (count : ℕ) : Type 0 where
+    (writer : ListingWriter L) (bytes : List ℕ) (first held : Option (List ℕ)) (count : ℕ) : Type 0 where
   pub piece : List ℕ
   pub consumed : Consumes before left piece
   pub long : length piece ≡ count
   pub some : 0 < count
   pub fits : count ≤ room
-  pub follows : Follows stands lines scribe (reverse piece ++ bytes) first held
+  pub follows : Follows stands lines writer (reverse piece ++ bytes) first held
 
 -- the last piece
 pub record ReadLast (lines whole : List Pair → List ℕ) (room : ℕ) (before left : Option (List ℕ)) (bytes : List ℕ) (first held : Option (List ℕ))
@@ -112,9 +145,9 @@ pub record ReadLast (lines whole : List Pair → List ℕ) (room : ℕ) (before 
   pub ends : EndsSo lines whole left (reverse piece ++ bytes) first held listing
 
 abbrev pub ReadSo : {L : Type 0} → (L → List Pair → Type 0) → (List Pair → List ℕ) → (List Pair → List ℕ) → ℕ → Option (List ℕ) → Option (List ℕ) →
-    Scribe L → List ℕ → Option (List ℕ) → Option (List ℕ) → Result ℕ Listing → Type 0
-ReadSo stands lines whole room before left scribe bytes first held (Ok count) = ReadOn stands lines room before left scribe bytes first held count
-ReadSo stands lines whole room before left scribe bytes first held (Err listing) = ReadLast lines whole room before left bytes first held listing
+    ListingWriter L → List ℕ → Option (List ℕ) → Option (List ℕ) → Result ℕ Listing → Type 0
+ReadSo stands lines whole room before left writer bytes first held (Ok count) = ReadOn stands lines room before left writer bytes first held count
+ReadSo stands lines whole room before left writer bytes first held (Err listing) = ReadLast lines whole room before left bytes first held listing
 
 -- a fault has its cause in the count of the source's or the sink's faults
 abbrev pub CauseOf : ℕ → ℕ → ℕ → ℕ → Listing → Type 0

@@ -85,6 +85,7 @@ impl ChannelLister {
     }
 
     // Nothing became known of a burst. One runs, or begins in this tick, or the time for an answer runs.
+    #[inline(always)]
     fn wait(&mut self, channel: Channel, now: u64, sample: Sample, text: &mut Line)
         requires { length text.old ≤ 400 }
         ensures text { text.new ≡ text.old ++ closed_lines channel (closed_in_time now (is_some (heard_or_now sample now self.old.running)) self.old.waiting) }

@@ -3,7 +3,7 @@ ghost use Rattle.std.specs.Prelude.{◌≡◌, [], List, ℕ, length};
 ghost use Rattle.bus_monitor.specs.Scribes.{IsListed, ListingHasCause, Follows};
 
 use crate::Listing;
-use crate::scribe::{Lister, Scribe};
+use crate::listing_writer::{Lister, ListingWriter};
 use bus_outside::{Sink, Source};
 
 // The most bytes that are read: one more than a capture text has.
@@ -23,27 +23,27 @@ pub(crate) fn list<L: Lister + Drop, S: Source, K: Sink>(
     ensures listed { IsListed L.lines L.whole (S.left source.old) (S.left source.new) (K.held sink.old) (K.held sink.new) result }
     ensures cause { ListingHasCause (S.faults source.old) (S.faults source.new) (K.faults sink.old) (K.faults sink.new) result }
 {
-    let mut scribe = Scribe::new(lister);
+    let mut writer = ListingWriter::new(lister);
     let mut piece = [0u8; 4096];
-    read_all(&mut scribe, &mut piece, source, sink)
+    read_all(&mut writer, &mut piece, source, sink)
 }
 
 // Reads to the end, piece by piece.
 fn read_all<L: Lister, S: Source, K: Sink>(
-    scribe: &mut Scribe<L>,
+    writer: &mut ListingWriter<L>,
     piece: &mut [u8],
     source: &mut S,
     sink: &mut K,
 ) -> Listing
     requires piece { length piece.old ≡ 4096 }
-    requires nothing { Follows L.stands L.lines scribe.old [] (K.held sink.old) (K.held sink.old) }
+    requires nothing { Follows L.stands L.lines writer.old [] (K.held sink.old) (K.held sink.old) }
     ensures listed { IsListed L.lines L.whole (S.left source.old) (S.left source.new) (K.held sink.old) (K.held sink.new) result }
     ensures cause { ListingHasCause (S.faults source.old) (S.faults source.new) (K.faults sink.old) (K.faults sink.new) result }
 {
     let mut left = MOST_BYTES;
     'pieces: loop {
         let room = left.min(PIECE) as usize;
-        match scribe.read_piece(&mut piece[..room], source, sink) {
+        match writer.read_piece(&mut piece[..room], source, sink) {
             Ok(count) => left -= count as u64,
             Err(listing) => return listing,
         }

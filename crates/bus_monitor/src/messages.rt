@@ -10,8 +10,8 @@ ghost use Rattle.bus_monitor.specs.Listers.{MessageListerStands};
 use crate::Listing;
 use crate::channel_lister::ChannelLister;
 use crate::list::list;
+use crate::listing_writer::Lister;
 use crate::message_text::add_open;
-use crate::scribe::Lister;
 use crate::words::add_end;
 use bus_base::{Channel, Pair};
 use bus_outside::{Sink, Source};
@@ -65,6 +65,7 @@ impl Lister for MessageLister {
         self.ticks += ticks;
     }
 
+    #[inline(always)]
     fn list(&mut self, shown: Pair, text: &mut Line) {
         self.a.list(Channel::A, self.ticks, shown.a, text);
         self.b.list(Channel::B, self.ticks, shown.b, text);

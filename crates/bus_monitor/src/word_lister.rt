@@ -57,6 +57,7 @@ impl WordLister {
     }
 
     /// Hears what both channels show in one tick. What became known of A and of B.
+    #[inline(always)]
     pub(crate) fn cut(&mut self, heard: Pair) -> (Cut, Cut)
         requires { (past : List Pair) × WordListerStands self.old past × (length past < 2 ^ 60) }
         ensures cuts { (past : List Pair) → WordListerStands self.old past →
@@ -88,6 +89,7 @@ impl WordLister {
 }
 
 // The quiet ticks in a row with one tick more.
+#[inline(always)]
 fn quiet_after(quiet: u8, heard: Pair) -> u8
     ensures { result ≡ quiet_next quiet heard }
 {

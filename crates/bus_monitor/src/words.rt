@@ -8,7 +8,7 @@ ghost use Rattle.bus_monitor.specs.Scribes.{IsListed, ListingHasCause};
 ghost use Rattle.bus_monitor.specs.Listers.{WordListerStands, heard_in};
 
 use crate::list::list;
-use crate::scribe::Lister;
+use crate::listing_writer::Lister;
 use crate::word_lister::word_in;
 use crate::{Listing, WordLister};
 use bus_base::{Channel, Pair};
@@ -43,6 +43,7 @@ impl Lister for WordLister {
         self.skip(ticks);
     }
 
+    #[inline(always)]
     fn list(&mut self, shown: Pair, text: &mut Line) {
         let tick = self.ticks();
         let (a, b) = self.cut(shown);

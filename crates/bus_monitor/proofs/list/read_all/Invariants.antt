@@ -9,7 +9,7 @@ invariant-pieces g l =
     (input : List ℕ)
     × Consumes (g.S.Source.left l.initial.source) (g.S.Source.left l.source) input
     × (l.left + length input ≡ suc text_limit)
-    × Follows g.L.Lister.stands g.L.Lister.lines l.scribe (reverse input) (g.K.Sink.held l.initial.sink) (g.K.Sink.held l.sink)
+    × Follows g.L.Lister.stands g.L.Lister.lines l.writer (reverse input) (g.K.Sink.held l.initial.sink) (g.K.Sink.held l.sink)
     × (g.S.Source.faults l.initial.source ≤ g.S.Source.faults l.source)
     × (g.K.Sink.faults l.initial.sink ≤ g.K.Sink.faults l.sink)
 

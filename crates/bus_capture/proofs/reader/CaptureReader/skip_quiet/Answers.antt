@@ -2,7 +2,8 @@ use Rattle.std.proofs.Common.{◌≡◌, ◌≤◌, ◌+◌, length, arith, take
 use Rattle.std.specs.Prelude.{min}
 use Rattle.std.proofs.lemmas.List.{length-take}
 use Rattle.bus_capture.specs.Readings.{text_limit}
-use Rattle.bus_capture.proofs.QuietLaws.{reader-skips}
+use Rattle.bus_capture.specs.Quiet.{quiet_pairs}
+use Rattle.bus_capture.proofs.QuietLaws.{reader-takes, long-quiet}
 use Rattle.bus_capture.proofs.reader.CaptureReader.skip_quiet.Goals as goal
 
 pub returns-clause-stands : goal.returns-clause-stands
@@ -13,6 +14,7 @@ returns-clause-stands c bytes stands =
     let long : length (take run c.args.piece.now) ≡ min run (length c.args.piece.now) = length-take run c.args.piece.now in
     let exact : length (take run c.args.piece.now) ≡ run = omega (arith, long, within) in
     let short : c.args.self.now.at + length (take run c.args.piece.now) ≤ text_limit = omega (arith, exact, within, room) in
-    reader-skips c.args.self.now (take run c.args.piece.now) bytes c.quiet_front-run.result.ticks c.saturating_add-self.result c.saturating_add-self-2.result
+    reader-takes c.args.self.now (take run c.args.piece.now) bytes (quiet_pairs c.quiet_front-run.result.ticks) c.quiet_front-run.result.ticks c.saturating_add-self.result c.saturating_add-self-2.result
     stands (c.if-not-stands_between.ensures refl).0 (c.if-not-stands_between.ensures refl).1 short c.quiet_front-run.ensures.reads
+    (long-quiet c.quiet_front-run.result.ticks)
     (rw exact c.saturating_add-self.ensures) c.saturating_add-self-2.ensures
