@@ -7,5 +7,6 @@ pub mod ShownLaws
 pub mod SideLaws
 pub mod ExtraLaws
 pub mod OnLaws
+pub mod IdleLaws
 pub mod StationLaws
 pub mod WireLaws

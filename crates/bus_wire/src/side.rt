@@ -1,13 +1,13 @@
 //! One channel with the transmitters of all stations.
-ghost use Rattle.std.specs.Prelude.{◌≡◌, ◌<◌, ◌≤◌, ◌^◌, List, ◌∷◌, length};
+ghost use Rattle.std.specs.Prelude.{◌≡◌, ◌<◌, ◌≤◌, ◌^◌, not, ◌&&◌, List, ◌∷◌, length};
 ghost use Rattle.bus_base.specs.Samples.{other_of};
 ghost use Rattle.bus_base.specs.declared.samples.Drive.{Drive};
 ghost use Rattle.bus_model.specs.Wire.{samples_on};
-ghost use Rattle.bus_wire.specs.Newest.{newest, by_any};
+ghost use Rattle.bus_wire.specs.Newest.{newest, by_any, since};
 ghost use Rattle.bus_wire.specs.Steps.{may_add};
 ghost use Rattle.bus_wire.specs.Sides.{SideFits, SideFollows, SideStands, IsUnsent, Shows, with_shown};
 
-use crate::transmitter::{Driven, LONGEST, Transmitter, sample_on};
+use crate::transmitter::{Driven, LONGEST, Transmitter, is_since, sample_on};
 use bus_base::{Channel, Drive, Sample};
 use bus_formats::Fault;
 
@@ -104,6 +104,12 @@ impl Side {
         ensures { (before : List (List Drive)) → SideStands faults.now channel self.now (drives.now ∷ before) → tick ≡ length before →
             other ≡ newest (by_any (other_of channel)) (drives.now ∷ before) → Shows (samples_on faults.now channel (drives.now ∷ before)) result }
     {
+        if self.is_idle(tick) {
+            return OnChannel {
+                sample: Sample::Quiet,
+                drivers: 0,
+            };
+        }
         let adds = self.may_add(tick);
         let mut on = OnChannel {
             sample: Sample::Quiet,
@@ -114,6 +120,13 @@ impl Side {
             on = on.with(self.transmitters[station].shown(faults, tick, other, adds, sample));
         }
         on
+    }
+
+    // Whether nobody drives the channel in this tick, the newest, and no extra may add to it.
+    fn is_idle(&self, tick: u64) -> bool
+        ensures { result ≡ (not (since self.now.driven tick) && not (may_add tick self.now.extra)) }
+    {
+        !is_since(self.driven, tick) && !self.may_add(tick)
     }
 
     // Whether an extra may add to a transmission of the channel in this tick: the fail-safe hasn't stopped all of them.

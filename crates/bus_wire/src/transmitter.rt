@@ -199,7 +199,7 @@ pub fn sample_on(channel: Channel, drive: Drive) -> Option<Sample>
 }
 
 // Whether a tick that is known is this one or a later one.
-fn is_since(tick: Option<u64>, from: u64) -> bool
+pub(crate) fn is_since(tick: Option<u64>, from: u64) -> bool
     ensures { result ≡ since tick from }
 {
     match tick {

@@ -1,8 +1,9 @@
-use Rattle.std.proofs.Common.{arith, sym, ◌∙◌}
+use Rattle.std.proofs.Common.{arith, refl, sym, ◌∙◌}
 use Rattle.std.proofs.lemmas.Option.{slice_get-get_or}
 use Rattle.bus_wire.proofs.SideLaws.{strikes-at}
 use Rattle.bus_wire.proofs.ExtraLaws.{none-added, sample-drives}
 use Rattle.bus_wire.proofs.OnLaws.{joins-start, joins-station, joins-end, counts-few}
+use Rattle.bus_wire.proofs.IdleLaws.{neither, driven-since, idle-shows}
 use Rattle.bus_wire.proofs.side.Side.shown.Goals as goal
 
 pub loop-station-init : goal.loop-station-init
@@ -30,6 +31,13 @@ loop-station-preserved c = record {
       (joins-station c.args.faults.now c.args.channel c.args.drives.now before c.args.self.now c.args.other c.loop-station.station _ _ c.args.tick
       c.loop-station.on c.requires.few st at beside c.loop-station-test.true (c.loop-station.invariant.joins before st at beside));
 }
+
+-- a tick in which nothing can be shown
+pub returns-then-is_idle : goal.returns-then-is_idle
+returns-then-is_idle c = λ before st at beside.
+    let (still, ended) = neither _ _ (sym c.is_idle.ensures ∙ c.if-is_idle.true) in
+    idle-shows c.args.faults.now c.args.channel c.args.drives.now before c.args.self.now c.args.other c.args.tick c.requires.few st at beside
+    (driven-since c.args.channel c.args.drives.now before c.args.self.now.driven c.args.tick _ refl st.driven_is at still) ended
 
 pub returns : goal.returns
 returns c = λ before st at beside.
