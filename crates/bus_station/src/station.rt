@@ -21,6 +21,8 @@ ghost use Rattle.bus_station.specs.Roles.{role_after};
 ghost use Rattle.bus_station.specs.Roles as roles;
 ghost use Rattle.bus_station.specs.Told.{attempts_told, delivery_told, ended_newest, delivered_newest};
 ghost use Rattle.bus_station.specs.StationStands.{StationStands, AfterTick};
+ghost use Rattle.bus_station.specs.Noticed.{noticed};
+ghost use Rattle.bus_station.specs.declared.event.StationEvent.TheVariants.{Nothing};
 
 use crate::event::StationEvent;
 use crate::role::Role;
@@ -43,6 +45,8 @@ pub struct Station {
     controller: Controller,
     // the tick of its first command, until it was heard
     taking: Option<Tick>,
+    // what it noticed last, until it was told
+    event: StationEvent,
 }
 
 impl Station {
@@ -64,6 +68,7 @@ impl Station {
             terminal: Terminal::new(terminal),
             controller: controller_with(agenda, starts),
             taking: None,
+            event: StationEvent::Nothing,
         }
     }
 
@@ -81,6 +86,23 @@ impl Station {
         ensures took { (plan : StationData) (starts : Bool) (loads : List TimedLoad) (outside : List OutsideTake) (past : List Pair) →
             StationStands LAG plan starts loads outside self.old past → delivery_told result ≡ delivered_newest LAG plan starts loads outside (heard ∷ past) }
     {
+        if self.notices(now, heard) {
+            self.tell()
+        } else {
+            StationEvent::Nothing
+        }
+    }
+
+    /// Hears the tick as `hear` does, and answers whether there is something to tell of it: then `tell` tells it. In most ticks there is nothing,
+    /// and no event is written.
+    #[inline(always)]
+    pub fn notices(&mut self, now: Tick, heard: Pair) -> bool
+        requires { (plan : StationData) × (starts : Bool) × (loads : List TimedLoad) × (outside : List OutsideTake) × (past : List Pair)
+            × StationStands LAG plan starts loads outside self.old past × (length past ≡ now.0) × (now.0 < 2 ^ 60) }
+        ensures { (plan : StationData) (starts : Bool) (loads : List TimedLoad) (outside : List OutsideTake) (past : List Pair) →
+            StationStands LAG plan starts loads outside self.old past →
+            AfterTick LAG plan starts loads outside self.new (noticed result self.new.event) heard past }
+    {
         if self.controller.is_yielded() {
             self.serve(now, heard)
         } else {
@@ -88,22 +110,35 @@ impl Station {
         }
     }
 
+    /// What it noticed last. It is told once: from then on it is nothing, until something else is noticed.
+    pub fn tell(&mut self) -> StationEvent
+        ensures event { result ≡ self.old.event }
+        ensures told { self.new.event ≡ Nothing }
+        ensures stands { (plan : StationData) (starts : Bool) (loads : List TimedLoad) (outside : List OutsideTake) (past : List Pair) →
+            StationStands LAG plan starts loads outside self.old past → StationStands LAG plan starts loads outside self.new past }
+    {
+        core::mem::replace(&mut self.event, StationEvent::Nothing)
+    }
+
     // A tick of a station that serves. Its terminal may accept control where items are left.
     #[inline(always)]
-    fn serve(&mut self, now: Tick, heard: Pair) -> StationEvent
+    fn serve(&mut self, now: Tick, heard: Pair) -> bool
         requires { (plan : StationData) × (starts : Bool) × (loads : List TimedLoad) × (outside : List OutsideTake) × (past : List Pair)
             × StationStands LAG plan starts loads outside self.old past × (holds_control LAG plan starts loads outside past ≡ false)
             × (length past ≡ now.0) × (now.0 < 2 ^ 60) }
         ensures { (plan : StationData) (starts : Bool) (loads : List TimedLoad) (outside : List OutsideTake) (past : List Pair) →
             StationStands LAG plan starts loads outside self.old past → holds_control LAG plan starts loads outside past ≡ false → length past ≡ now.0 →
-            AfterTick LAG plan starts loads outside self.new result heard past }
+            AfterTick LAG plan starts loads outside self.new (noticed result self.new.event) heard past }
     {
         match self.listen(now, heard) {
-            TerminalEvent::Nothing => StationEvent::Nothing,
-            TerminalEvent::Took(delivery) => StationEvent::Took(delivery),
+            TerminalEvent::Nothing => false,
+            TerminalEvent::Took(delivery) => {
+                self.event = StationEvent::Took(delivery);
+                true
+            }
             TerminalEvent::Accepted => {
                 self.take_over(first_command(now));
-                StationEvent::Nothing
+                false
             }
         }
     }
@@ -149,26 +184,27 @@ impl Station {
     }
 
     // A tick of a station that holds control.
-    fn hold(&mut self, now: Tick, heard: Pair) -> StationEvent
+    fn hold(&mut self, now: Tick, heard: Pair) -> bool
         requires { (plan : StationData) × (starts : Bool) × (loads : List TimedLoad) × (outside : List OutsideTake) × (past : List Pair)
             × StationStands LAG plan starts loads outside self.old past × (length past ≡ now.0) × (now.0 < 2 ^ 60) }
         ensures { (plan : StationData) (starts : Bool) (loads : List TimedLoad) (outside : List OutsideTake) (past : List Pair) →
             StationStands LAG plan starts loads outside self.old past → holds_control LAG plan starts loads outside past ≡ true → length past ≡ now.0 →
-            AfterTick LAG plan starts loads outside self.new result heard past }
+            AfterTick LAG plan starts loads outside self.new (noticed result self.new.event) heard past }
     {
         match self.controller.hear(now, heard) {
             ControllerEvent::Nothing => {
                 self.rest(now);
                 self.taking = still_taking(self.taking, now);
-                StationEvent::Nothing
+                false
             }
             ControllerEvent::Ended(attempt) => {
                 self.close(now, heard, attempt.outcome);
                 self.taking = None;
-                StationEvent::Ended(Attempt {
+                self.event = StationEvent::Ended(Attempt {
                     station: self.address,
                     ..attempt
-                })
+                });
+                true
             }
         }
     }

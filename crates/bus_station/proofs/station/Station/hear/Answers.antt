@@ -1,53 +1,31 @@
-use Rattle.std.proofs.Common.{◌∙◌}
-use Rattle.bus_line.specs.declared.cutter.TheConstants.{LAG}
-use Rattle.bus_station.specs.StationStands.{StationStands}
-use Rattle.bus_station.proofs.Shown.{serves, controls, same-length}
+use Rattle.std.proofs.Common.{Bool, sym, ap, ◌∙◌}
+use Rattle.bus_station.specs.Noticed.{noticed}
+use Rattle.bus_station.specs.Told.{attempts_told, delivery_told}
 use Rattle.bus_station.proofs.station.Station.hear.Goals as goal
 
-pub serve-requires : goal.serve-requires
-unfolding StationStands
-serve-requires c =
-    let (plan, starts, loads, outside, past, st, here, small) = c.requires in
-    (plan, starts, loads, outside, past, st, serves _ _ (c.is_yielded.ensures plan starts _ past st.controller) c.if-is_yielded.true, here, small)
+pub returns-then-notices-clause-stands : goal.returns-then-notices-clause-stands
+returns-then-notices-clause-stands c = λ plan starts loads outside past st.
+    c.tell.ensures.stands plan starts loads outside _ (c.notices.ensures plan starts loads outside past st).stands
 
-pub returns-then-is_yielded-clause-stands : goal.returns-then-is_yielded-clause-stands
-unfolding StationStands
-returns-then-is_yielded-clause-stands c = λ plan starts loads outside past st.
-    let (known, on, made, taken, heard, st_known, here, small) = c.requires in
-    (c.serve.ensures plan starts loads outside past st (serves _ _ (c.is_yielded.ensures plan starts _ past st.controller) c.if-is_yielded.true)
-    (same-length LAG _ _ _ _ _ _ _ past heard st.controller st_known.controller ∙ here)).stands
+pub returns-then-notices-clause-ended : goal.returns-then-notices-clause-ended
+returns-then-notices-clause-ended c = λ plan starts loads outside past st.
+    ap attempts_told (c.tell.ensures.event ∙ sym (ap (λ (b : Bool). noticed b c.notices.new.self.event) c.if-notices.true))
+    ∙ (c.notices.ensures plan starts loads outside past st).ended
 
-pub returns-then-is_yielded-clause-ended : goal.returns-then-is_yielded-clause-ended
-unfolding StationStands
-returns-then-is_yielded-clause-ended c = λ plan starts loads outside past st.
-    let (known, on, made, taken, heard, st_known, here, small) = c.requires in
-    (c.serve.ensures plan starts loads outside past st (serves _ _ (c.is_yielded.ensures plan starts _ past st.controller) c.if-is_yielded.true)
-    (same-length LAG _ _ _ _ _ _ _ past heard st.controller st_known.controller ∙ here)).ended
+pub returns-then-notices-clause-took : goal.returns-then-notices-clause-took
+returns-then-notices-clause-took c = λ plan starts loads outside past st.
+    ap delivery_told (c.tell.ensures.event ∙ sym (ap (λ (b : Bool). noticed b c.notices.new.self.event) c.if-notices.true))
+    ∙ (c.notices.ensures plan starts loads outside past st).took
 
-pub returns-then-is_yielded-clause-took : goal.returns-then-is_yielded-clause-took
-unfolding StationStands
-returns-then-is_yielded-clause-took c = λ plan starts loads outside past st.
-    let (known, on, made, taken, heard, st_known, here, small) = c.requires in
-    (c.serve.ensures plan starts loads outside past st (serves _ _ (c.is_yielded.ensures plan starts _ past st.controller) c.if-is_yielded.true)
-    (same-length LAG _ _ _ _ _ _ _ past heard st.controller st_known.controller ∙ here)).took
+pub returns-else-notices-clause-stands : goal.returns-else-notices-clause-stands
+returns-else-notices-clause-stands c = λ plan starts loads outside past st. (c.notices.ensures plan starts loads outside past st).stands
 
-pub returns-else-is_yielded-clause-stands : goal.returns-else-is_yielded-clause-stands
-unfolding StationStands
-returns-else-is_yielded-clause-stands c = λ plan starts loads outside past st.
-    let (known, on, made, taken, heard, st_known, here, small) = c.requires in
-    (c.hold.ensures plan starts loads outside past st (controls _ _ (c.is_yielded.ensures plan starts _ past st.controller) c.if-is_yielded.false)
-    (same-length LAG _ _ _ _ _ _ _ past heard st.controller st_known.controller ∙ here)).stands
+pub returns-else-notices-clause-ended : goal.returns-else-notices-clause-ended
+returns-else-notices-clause-ended c = λ plan starts loads outside past st.
+    ap attempts_told (sym (ap (λ (b : Bool). noticed b c.notices.new.self.event) c.if-notices.false))
+    ∙ (c.notices.ensures plan starts loads outside past st).ended
 
-pub returns-else-is_yielded-clause-ended : goal.returns-else-is_yielded-clause-ended
-unfolding StationStands
-returns-else-is_yielded-clause-ended c = λ plan starts loads outside past st.
-    let (known, on, made, taken, heard, st_known, here, small) = c.requires in
-    (c.hold.ensures plan starts loads outside past st (controls _ _ (c.is_yielded.ensures plan starts _ past st.controller) c.if-is_yielded.false)
-    (same-length LAG _ _ _ _ _ _ _ past heard st.controller st_known.controller ∙ here)).ended
-
-pub returns-else-is_yielded-clause-took : goal.returns-else-is_yielded-clause-took
-unfolding StationStands
-returns-else-is_yielded-clause-took c = λ plan starts loads outside past st.
-    let (known, on, made, taken, heard, st_known, here, small) = c.requires in
-    (c.hold.ensures plan starts loads outside past st (controls _ _ (c.is_yielded.ensures plan starts _ past st.controller) c.if-is_yielded.false)
-    (same-length LAG _ _ _ _ _ _ _ past heard st.controller st_known.controller ∙ here)).took
+pub returns-else-notices-clause-took : goal.returns-else-notices-clause-took
+returns-else-notices-clause-took c = λ plan starts loads outside past st.
+    ap delivery_told (sym (ap (λ (b : Bool). noticed b c.notices.new.self.event) c.if-notices.false))
+    ∙ (c.notices.ensures plan starts loads outside past st).took
