@@ -1,16 +1,15 @@
 -- Where a burst lies whose end became known in the newest tick, and which slots it has.
-use Rattle.std.proofs.Common.{◌≡◌, ℕ, zero, suc, ◌+◌, ◌-◌, ◌*◌, ◌/◌, ◌%◌, ◌<◌, ◌≤◌, Bool, true, false, ◌==◌, ◌&&◌, nat_lt, List, [], ◌∷◌, length, Option, Some, None, refl, sym, ap, ◌∙◌, arith, if◌then◌else◌}
+use Rattle.std.proofs.Common.{◌≡◌, ℕ, suc, ◌+◌, ◌-◌, ◌*◌, ◌/◌, ◌<◌, Bool, true, false, ◌==◌, ◌&&◌, nat_lt, List, ◌∷◌, length, Some, None, refl, sym, ap, ◌∙◌, arith, if◌then◌else◌}
 use Rattle.std.proofs.lemmas.Bool.Decides.{nat_tests}
 use Rattle.bus_base.specs.declared.samples.Sample.{Sample}
 use Rattle.bus_base.specs.declared.samples.Sample.TheVariants.{Plus, Minus, Quiet}
-use Rattle.bus_words.specs.declared.word.Word.{Word}
 use Rattle.bus_line.specs.declared.cutter.Cut.TheVariants as cuts
-use Rattle.bus_line.specs.Past.{Burst, quiet, stopped, first_tick, newest_burst, burst_from, ended_now, end_of, rest_of}
+use Rattle.bus_line.specs.Past.{Burst, quiet, stopped, first_tick, newest_burst, ended_now, end_of, rest_of}
 use Rattle.bus_line.specs.Bursts.{IsEndedNow}
 use Rattle.bus_line.specs.Cutting.{Tells, running_slots}
 use Rattle.bus_line.proofs.PastLaws.{runs-from, stopped-more}
 use Rattle.bus_line.proofs.LookUpLaws.{ended-known}
-use Rattle.bus_line.proofs.SlotLaws.{burst-ticks, burst-first, slots-count}
+use Rattle.bus_line.proofs.SlotLaws.{burst-ticks, slots-count}
 use Rattle.bus_line.proofs.CollectLaws.{running-on}
 use Rattle.bus_line.proofs.CutNow.{ended-more}
 

@@ -1,26 +1,23 @@
 -- An ear that stands for what its channel showed stands for it with one tick more, and tells what ended in that tick.
-use Rattle.std.proofs.Common.{◌≡◌, ℕ, zero, suc, ◌+◌, ◌-◌, ◌*◌, ◌^◌, ◌<◌, ◌≤◌, Bool, true, false, not, ◌&&◌, List, [], ◌∷◌, ◌++◌, length, take, Option, Some, None, refl, sym, ap, ◌∙◌, subst, arith, if◌then◌else◌}
+use Rattle.std.proofs.Common.{◌≡◌, ℕ, suc, ◌^◌, ◌<◌, ◌≤◌, Bool, true, false, List, [], ◌∷◌, ◌++◌, length, Option, Some, None, refl, sym, ap, ◌∙◌, subst, arith, if◌then◌else◌}
 use Rattle.std.specs.Prelude.{is_some, IfSome}
-use Rattle.std.proofs.lemmas.Bool.Decides.{nat_tests}
 use Rattle.bus_base.specs.declared.samples.Sample.{Sample}
 use Rattle.bus_words.specs.declared.word.Word.{Word}
 use Rattle.bus_line.specs.declared.cutter.Cut.{Cut}
 use Rattle.bus_line.specs.declared.cutter.Cut.TheVariants as cuts
 use Rattle.bus_line.specs.declared.cutter.Cutter.{Cutter}
-use Rattle.bus_line.specs.Past.{Burst, Slot, slot_now, ended_now, newest_burst, end_of, rest_of}
+use Rattle.bus_line.specs.Past.{Slot, slot_now, ended_now, newest_burst}
 use Rattle.bus_line.specs.Cutting.{CutterStands, cut_now, Tells, Collects, running_slots}
 use Rattle.bus_model.specs.Orders.{command_for}
-use Rattle.bus_model.specs.Hearing.{is_addressed}
 use Rattle.bus_model.specs.Standing.{ignored_from}
-use Rattle.bus_ears.specs.Ears.{EarStands, Holds, Ignores, IsHeard, IsToldBurst, AreTold, sent_by, addressed_by}
-use Rattle.bus_ears.specs.Steps.{EndFits, after_cut, burst_told, with_slot, kept_with, still_sending, sending_from}
+use Rattle.bus_ears.specs.Ears.{EarStands, Holds, Ignores, IsHeard, AreTold, told_if, sent_by, addressed_by}
+use Rattle.bus_ears.specs.Steps.{EndFits, after_cut, is_end, with_slot, still_sending, sending_from}
 use Rattle.bus_ears.specs.declared.ear.Ear.{Ear}
-use Rattle.bus_ears.specs.declared.ear.HeardBurst.{HeardBurst}
 use Rattle.bus_ears.proofs.Slots.{holds-none, holds-command, holds-other}
 use Rattle.bus_line.proofs.CollectLaws.{cut-collects}
 use Rattle.bus_line.proofs.CutNow.{cut-tells}
 use Rattle.bus_ears.proofs.Sending.{ignores-is, ignores-more}
-use Rattle.bus_ears.proofs.Bursts.{ended-slots, ended-placed, IsPlaced}
+use Rattle.bus_ears.proofs.Bursts.{ended-slots, ended-placed}
 
 -- ---- marks
 
@@ -77,7 +74,7 @@ after-slot most own ear now ignored old new slot first word addressed (Some comm
 pub after-any : (k most own : ℕ) (ear : Ear) (now : ℕ) (ignored : Bool) (heard past : List Sample) (addressed : Option ℕ) (cut : Cut) →
     Holds most own ear.command ear.slots.items (running_slots k heard) → ear.addressed ≡ addressed → IfSome addressed (λ tick. tick < now) →
     Tells k past cut → Collects cut (running_slots k heard) (running_slots k past) →
-    IsAfter most own (suc now) (after_cut most own now cut ignored ear) (running_slots k past) (addressed_by own now (slot_now k past) ignored addressed)
+    IsAfter most own (suc now) (after_cut k most own now cut ignored ear) (running_slots k past) (addressed_by own now (slot_now k past) ignored addressed)
 after-any k most own ear now ignored heard past addressed cuts.Nothing holds mark before tells new =
     let same : addressed_by own now (slot_now k past) ignored addressed ≡ addressed = mark-none own now (slot_now k past) ignored addressed tells.1 in
     record { slots_are = rw new holds; mark = mark ∙ sym same; mark_before = rw same (before-more addressed now before) }
@@ -90,11 +87,13 @@ after-any k most own ear now ignored heard past addressed (cuts.Ended slots rest
 
 -- ---- what is told
 
-pub told-any : (k most own : ℕ) (ear : Ear) (x : Sample) (heard : List Sample) (cut : Cut) → Holds most own ear.command ear.slots.items (running_slots k heard) →
-    Tells k (x ∷ heard) cut → AreTold most own (burst_told k (length heard) cut ear) (ended_now k (x ∷ heard))
-told-any k most own ear x heard cuts.Nothing holds tells = rw tells.0 tt
-told-any k most own ear x heard (cuts.Slot i word) holds tells = rw tells.0 tt
-told-any k most own ear x heard (cuts.Ended slots rest) holds tells =
+-- an ear that followed a cut keeps the burst that ended by it
+pub told-any : (k most own : ℕ) (ear : Ear) (ignored : Bool) (x : Sample) (heard : List Sample) (cut : Cut) →
+    Holds most own ear.command ear.slots.items (running_slots k heard) → Tells k (x ∷ heard) cut →
+    AreTold most own (told_if (is_end cut) (after_cut k most own (length heard) cut ignored ear).last) (ended_now k (x ∷ heard))
+told-any k most own ear ignored x heard cuts.Nothing holds tells = rw tells.0 tt
+told-any k most own ear ignored x heard (cuts.Slot i word) holds tells = rw tells.0 tt
+told-any k most own ear ignored x heard (cuts.Ended slots rest) holds tells =
     let placed = ended-placed k slots rest x heard tells in
     let same = ended-slots k x heard (newest_burst k (x ∷ heard)) tells.0 in
     rw tells.0 record {
@@ -118,7 +117,7 @@ keeps-cutter k most own now cut ignored ear None word = (refl, refl)
 keeps-cutter k most own now cut ignored ear (Some command) word = (refl, refl)
 
 cut-keeps : (k most own now : ℕ) (cut : Cut) (ignored : Bool) (ear : Ear) →
-    ((after_cut most own now cut ignored ear).cutter ≡ ear.cutter) × ((after_cut most own now cut ignored ear).sending ≡ ear.sending)
+    ((after_cut k most own now cut ignored ear).cutter ≡ ear.cutter) × ((after_cut k most own now cut ignored ear).sending ≡ ear.sending)
 cut-keeps k most own now cuts.Nothing ignored ear = (refl, refl)
 cut-keeps k most own now (cuts.Slot i word) ignored ear = keeps-cutter k most own now (cuts.Slot i word) ignored ear (command_for own word) word
 cut-keeps k most own now (cuts.Ended slots rest) ignored ear = (refl, refl)
@@ -126,7 +125,7 @@ cut-keeps k most own now (cuts.Ended slots rest) ignored ear = (refl, refl)
 -- an ear that follows its cutter
 pub ear-stands : (k most own : ℕ) (ear after : Ear) (cutter : Cutter) (x : Sample) (heard : List Sample) (sent addressed sending : Option ℕ) (begins ignored : Bool) (now : ℕ) (cut : Cut) →
     k ≤ 39 → EarStands k most own ear heard sent addressed → length heard ≡ now → ignored ≡ is_some ear.sending → cut ≡ cut_now k (x ∷ heard) →
-    CutterStands k cutter (x ∷ heard) → after ≡ after_cut most own now cut ignored (record ear { cutter = cutter }) →
+    CutterStands k cutter (x ∷ heard) → after ≡ after_cut k most own now cut ignored (record ear { cutter = cutter }) →
     sending ≡ still_sending k (sending_from begins after.sending) x →
     EarStands k most own (record after { sending = sending }) (x ∷ heard) (sent_by now begins sent)
     (addressed_by own now (slot_now k (x ∷ heard)) (ignored_from k heard sent) addressed)
@@ -136,7 +135,7 @@ ear-stands k most own ear after cutter x heard sent addressed sending begins ign
     let keeps = cut-keeps k most own now cut ignored before in
     let tells : Tells k (x ∷ heard) cut = rw is (cut-tells k (x ∷ heard)) in
     let collects : Collects cut (running_slots k heard) (running_slots k (x ∷ heard)) = rw is (cut-collects k x heard small) in
-    let marks : IsAfter most own (suc now) (after_cut most own now cut ignored before) (running_slots k (x ∷ heard)) (addressed_by own now (slot_now k (x ∷ heard)) ignored addressed) =
+    let marks : IsAfter most own (suc now) (after_cut k most own now cut ignored before) (running_slots k (x ∷ heard)) (addressed_by own now (slot_now k (x ∷ heard)) ignored addressed) =
     after-any k most own before now ignored heard (x ∷ heard) addressed cut st.slots st.addressed_is (rw (← here) st.before) tells collects in
     let same_sending : after.sending ≡ ear.sending = ap (λ (e : Ear). e.sending) follows ∙ keeps.1 in
     let same_cutter : after.cutter ≡ cutter = ap (λ (e : Ear). e.cutter) follows ∙ keeps.0 in
@@ -151,13 +150,14 @@ ear-stands k most own ear after cutter x heard sent addressed sending begins ign
       ignores = rw (sends, same_sending, ← here) sends_more;
     }
 
-pub ear-tells : (k most own : ℕ) (ear : Ear) (cutter : Cutter) (x : Sample) (heard : List Sample) (sent addressed : Option ℕ) (ignored : Bool) (now : ℕ) (cut : Cut) (burst : Option HeardBurst) →
+pub ear-tells : (k most own : ℕ) (ear after : Ear) (cutter : Cutter) (x : Sample) (heard : List Sample) (sent addressed : Option ℕ) (ignored ended : Bool)
+    (now : ℕ) (cut : Cut) →
     EarStands k most own ear heard sent addressed → length heard ≡ now → ignored ≡ is_some ear.sending → cut ≡ cut_now k (x ∷ heard) →
-    burst ≡ burst_told k now cut (record ear { cutter = cutter }) →
-    IsHeard k most own (record { burst = burst; ignored = ignored }) (x ∷ heard) (ignored_from k heard sent)
-ear-tells k most own ear cutter x heard sent addressed ignored now cut burst st here ig is told =
+    after ≡ after_cut k most own now cut ignored (record ear { cutter = cutter }) → ended ≡ is_end cut →
+    IsHeard k most own (record { burst = told_if ended after.last; ignored = ignored }) (x ∷ heard) (ignored_from k heard sent)
+ear-tells k most own ear after cutter x heard sent addressed ignored ended now cut st here ig is follows ends =
     let tells : Tells k (x ∷ heard) cut = rw is (cut-tells k (x ∷ heard)) in
     record {
-      burst = rw (told, ← here) (told-any k most own (record ear { cutter = cutter }) x heard cut st.slots tells);
+      burst = rw (ends, follows, ← here) (told-any k most own (record ear { cutter = cutter }) ignored x heard cut st.slots tells);
       ignored_is = ig ∙ ignores-is k ear.sending heard sent st.ignores;
     }

@@ -1,15 +1,16 @@
 -- For which pasts of one channel an ear stands, and what it tells of a tick.
-use Rattle.std.specs.Prelude.{◌≡◌, ℕ, ◌+◌, ◌-◌, ◌<◌, ◌≤◌, min, Bool, true, false, not, ◌&&◌, if◌then◌else◌, List, length, take, Option, Some, None, IfSome, ⊤}
+use Rattle.std.specs.Prelude.{◌≡◌, ℕ, ◌-◌, ◌<◌, ◌≤◌, min, Bool, true, false, not, ◌&&◌, if◌then◌else◌, List, length, take, Option, Some, None, IfSome, ⊤}
 use Rattle.bus_base.specs.declared.samples.Sample.{Sample}
 use Rattle.bus_words.specs.declared.word.Word.{Word}
 use Rattle.bus_line.specs.Past.{Slot, Burst, quiet, end_of, rest_of, end_since, ended_now}
 use Rattle.bus_line.specs.Cutting.{CutterStands, running_slots}
-use Rattle.bus_model.specs.Orders.{Order, last_order}
+use Rattle.bus_model.specs.Orders.{last_order}
 use Rattle.bus_model.specs.Hearing.{is_addressed}
 use Rattle.bus_model.specs.Standing.{ignored_from}
 use Rattle.bus_ears.specs.declared.ear.Ear.{Ear}
 use Rattle.bus_ears.specs.declared.ear.HeardBurst.{HeardBurst}
 use Rattle.bus_ears.specs.declared.ear.Heard.{Heard}
+use Rattle.bus_ears.specs.declared.ear.HeardTick.{HeardTick}
 
 -- the last command for the terminal in these slots, with the first of the slots after it; all slots where there is none
 abbrev pub Holds : ℕ → ℕ → Option ℕ → List (Option Word) → List (Option Word) → Type 0
@@ -49,6 +50,14 @@ abbrev pub AreTold : ℕ → ℕ → Option HeardBurst → Option Burst → Type
 AreTold most own None None = ⊤
 AreTold most own (Some told) (Some burst) = IsToldBurst most own told burst
 AreTold most own _ _ = ⊥
+
+-- what a tick brought, with the burst that an ear keeps
+abbrev pub told_if : Bool → HeardBurst → Option HeardBurst
+told_if true burst = Some burst
+told_if false burst = None
+
+abbrev pub heard_of : Ear → HeardTick → Heard
+heard_of ear tick = record { burst = told_if tick.ended ear.last; ignored = tick.ignored }
 
 -- what an ear tells of the newest tick: the burst whose end became known, and whether the channel was ignored
 pub record IsHeard (k most own : ℕ) (told : Heard) (heard : List Sample) (ignored : Bool) : Type 0 where

@@ -1,5 +1,5 @@
 -- One tick of an ear, as a function of the ear and of what its cutter told.
-use Rattle.std.specs.Prelude.{ℕ, ◌+◌, ◌-◌, ◌*◌, ◌<◌, ◌≤◌, ◌^◌, nat_lt, nat_le, Bool, if◌then◌else◌, List, [], ◌∷◌, ◌++◌, length, Option, Some, None, ⊤}
+use Rattle.std.specs.Prelude.{ℕ, ◌+◌, ◌-◌, ◌*◌, ◌<◌, ◌≤◌, ◌^◌, nat_lt, nat_le, Bool, true, false, if◌then◌else◌, List, [], ◌∷◌, ◌++◌, length, Option, Some, None, ⊤}
 use Rattle.bus_base.specs.declared.samples.Sample.{Sample}
 use Rattle.bus_base.specs.declared.samples.Sample.TheVariants.{Plus, Minus, Quiet}
 use Rattle.bus_words.specs.declared.word.Word.{Word}
@@ -27,21 +27,30 @@ with_slot most now ignored ear word (Some command) = record ear {
   addressed = if ignored then ear.addressed else Some now;
 }
 
-abbrev pub after_cut : ℕ → ℕ → ℕ → Cut → Bool → Ear → Ear
-after_cut most own now cuts.Nothing ignored ear = ear
-after_cut most own now (cuts.Slot i word) ignored ear = with_slot most now ignored ear word (command_for own word)
-after_cut most own now (cuts.Ended slots rest) ignored ear = record ear { command = None; slots = record { items = [] } }
-
-abbrev pub burst_told : ℕ → ℕ → Cut → Ear → Option HeardBurst
-burst_told k now cuts.Nothing ear = None
-burst_told k now (cuts.Slot i word) ear = None
-burst_told k now (cuts.Ended slots rest) ear = Some record {
+-- a burst whose end became known in the tick now, by what its cutter told
+abbrev pub ended_by : ℕ → ℕ → ℕ → ℕ → Ear → HeardBurst
+ended_by k now slots rest ear = record {
   first = now - k - (40 * slots + rest);
   end = now - k;
   rest = rest;
   command = ear.command;
   slots = ear.slots;
 }
+
+abbrev pub after_cut : ℕ → ℕ → ℕ → ℕ → Cut → Bool → Ear → Ear
+after_cut k most own now cuts.Nothing ignored ear = ear
+after_cut k most own now (cuts.Slot i word) ignored ear = with_slot most now ignored ear word (command_for own word)
+after_cut k most own now (cuts.Ended slots rest) ignored ear =
+    record ear { command = None; slots = record { items = [] }; last = ended_by k now slots rest ear }
+
+abbrev pub is_end : Cut → Bool
+is_end cuts.Nothing = false
+is_end (cuts.Slot i word) = false
+is_end (cuts.Ended slots rest) = true
+
+-- the ear from which the last burst's slots were moved out
+abbrev pub without_last : Ear → Ear
+without_last ear = record ear { last = record { first = ear.last.first; end = ear.last.end; rest = ear.last.rest; command = None; slots = record { items = [] } } }
 
 abbrev pub sending_from : Bool → Option ℕ → Option ℕ
 sending_from begins sending = if begins then Some 0 else sending

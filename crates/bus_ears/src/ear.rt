@@ -8,8 +8,8 @@ ghost use Rattle.bus_line.specs.Past.{quiet_ticks, slot_now};
 ghost use Rattle.bus_line.specs.declared.cutter.TheConstants.{LAG};
 ghost use Rattle.bus_model.specs.Orders as orders;
 ghost use Rattle.bus_model.specs.Standing.{ignored_from};
-ghost use Rattle.bus_ears.specs.Ears.{EarStands, IsHeard, sent_by, addressed_by};
-ghost use Rattle.bus_ears.specs.Steps.{EndFits, after_cut, burst_told, with_slot, still_sending, sending_from};
+ghost use Rattle.bus_ears.specs.Ears.{EarStands, IsHeard, heard_of, sent_by, addressed_by};
+ghost use Rattle.bus_ears.specs.Steps.{EndFits, after_cut, with_slot, is_end, without_last, still_sending, sending_from};
 
 use arrayvec::ArrayVec;
 use bus_base::Sample;
@@ -31,6 +31,8 @@ pub struct Ear {
     addressed: Option<u64>,
     // the quiet ticks in a row of the terminal's own transmission, while the channel is ignored
     sending: Option<u8>,
+    // the burst that ended last
+    last: HeardBurst,
 }
 
 /// A burst whose end became known: its first tick, the tick after its last one, the ticks after its last whole slot, the last command for
@@ -44,7 +46,14 @@ pub struct HeardBurst {
     pub slots: ArrayVec<Option<Word>, 34>,
 }
 
-/// What a tick brought on one channel, and whether the channel was ignored in it.
+/// What a tick brought on one channel: whether a burst's end became known, and whether the channel was ignored in it.
+#[derive(Clone, Copy, Debug)]
+pub struct HeardTick {
+    pub ended: bool,
+    pub ignored: bool,
+}
+
+/// What a tick brought on one channel, with the burst whose end became known.
 #[derive(Drop)]
 pub struct Heard {
     pub burst: Option<HeardBurst>,
@@ -62,42 +71,91 @@ impl Ear {
             slots: ArrayVec::new(),
             addressed: None,
             sending: None,
+            last: HeardBurst {
+                first: 0,
+                end: 0,
+                rest: 0,
+                command: None,
+                slots: ArrayVec::new(),
+            },
         }
     }
 
     /// Hears what the channel shows in tick `now`, for the terminal with the address `own`. `begins` says that the terminal's own
     /// transmission begins on it in this tick.
-    pub fn hear(&mut self, own: u8, now: u64, sample: Sample, begins: bool) -> Heard
+    #[inline(always)]
+    pub fn hear(&mut self, own: u8, now: u64, sample: Sample, begins: bool) -> HeardTick
         requires { (heard : List Sample) × (sent : Option ℕ) × (addressed : Option ℕ) × EarStands LAG MOST_SLOTS own self.old heard sent addressed
             × (length heard ≡ now) × (now < 2 ^ 60) }
         ensures stands { (heard : List Sample) (sent addressed : Option ℕ) → EarStands LAG MOST_SLOTS own self.old heard sent addressed → length heard ≡ now →
             EarStands LAG MOST_SLOTS own self.new (sample ∷ heard) (sent_by now begins sent)
             (addressed_by own now (slot_now LAG (sample ∷ heard)) (ignored_from LAG heard sent) addressed) }
         ensures tells { (heard : List Sample) (sent addressed : Option ℕ) → EarStands LAG MOST_SLOTS own self.old heard sent addressed → length heard ≡ now →
-            IsHeard LAG MOST_SLOTS own result (sample ∷ heard) (ignored_from LAG heard sent) }
+            IsHeard LAG MOST_SLOTS own (heard_of self.new result) (sample ∷ heard) (ignored_from LAG heard sent) }
     {
         let ignored = self.sending.is_some();
         let cut = self.cutter.hear(sample);
-        let burst = self.follow(own, now, cut, ignored);
+        let ended = self.follow(own, now, cut, ignored);
         self.sending = sending_after(self.sending, sample, begins);
-        Heard { burst, ignored }
+        HeardTick { ended, ignored }
+    }
+
+    /// The burst that ended last.
+    pub fn last(&self) -> &HeardBurst
+        ensures { result.now ≡ self.now.last }
+    {
+        &self.last
+    }
+
+    /// What the last tick brought, with the burst, which is moved out.
+    pub fn tell(&mut self, tick: HeardTick) -> Heard
+        ensures told { result ≡ heard_of self.old tick }
+        ensures stands { (own : ℕ) (heard : List Sample) (sent addressed : Option ℕ) → EarStands LAG MOST_SLOTS own self.old heard sent addressed →
+            EarStands LAG MOST_SLOTS own self.new heard sent addressed }
+    {
+        let burst = if tick.ended {
+            Some(self.take_last())
+        } else {
+            None
+        };
+        Heard {
+            burst,
+            ignored: tick.ignored,
+        }
+    }
+
+    fn take_last(&mut self) -> HeardBurst
+        ensures after { self.new ≡ without_last self.old }
+        ensures told { result ≡ self.old.last }
+    {
+        HeardBurst {
+            first: self.last.first,
+            end: self.last.end,
+            rest: self.last.rest,
+            command: self.last.command.take(),
+            slots: self.last.slots.take(),
+        }
     }
 }
 
 impl Ear {
-    // Follows a cut in the tick `now`.
-    fn follow(&mut self, own: u8, now: u64, cut: Cut, ignored: bool) -> Option<HeardBurst>
+    // Follows a cut in the tick `now`, and tells whether a burst's end became known by it.
+    #[inline(always)]
+    fn follow(&mut self, own: u8, now: u64, cut: Cut, ignored: bool) -> bool
         requires { EndFits LAG now cut }
-        ensures after { self.new ≡ after_cut MOST_SLOTS own now cut ignored self.old }
-        ensures told { result ≡ burst_told LAG now cut self.old }
+        ensures after { self.new ≡ after_cut LAG MOST_SLOTS own now cut ignored self.old }
+        ensures told { result ≡ is_end cut }
     {
         match cut {
-            Cut::Nothing => None,
+            Cut::Nothing => false,
             Cut::Slot { word, .. } => {
                 self.collect(own, now, word, ignored);
-                None
+                false
             }
-            Cut::Ended { slots, rest } => Some(self.finish(now, slots, rest)),
+            Cut::Ended { slots, rest } => {
+                self.finish(now, slots, rest);
+                true
+            }
         }
     }
 
@@ -120,22 +178,22 @@ impl Ear {
     }
 
     // The burst that ran has ended, with so many slots and so many ticks after them.
-    fn finish(&mut self, now: u64, slots: u64, rest: u8) -> HeardBurst
+    fn finish(&mut self, now: u64, slots: u64, rest: u8)
         requires { EndFits LAG now (Cut.Ended slots rest) }
-        ensures after { self.new ≡ after_cut MOST_SLOTS 0 now (Cut.Ended slots rest) false self.old }
-        ensures told { Some result ≡ burst_told LAG now (Cut.Ended slots rest) self.old }
+        ensures { self.new ≡ after_cut LAG MOST_SLOTS 0 now (Cut.Ended slots rest) false self.old }
     {
         let end = now - u64::from(LAG);
-        HeardBurst {
+        self.last = HeardBurst {
             first: end - (40 * slots + u64::from(rest)),
             end,
             rest,
             command: self.command.take(),
             slots: self.slots.take(),
-        }
+        };
     }
 
     /// The tick in which the last addressed slot ended, that wasn't ignored.
+    #[inline(always)]
     pub fn addressed(&self) -> Option<u64>
         ensures { (own : ℕ) (heard : List Sample) (sent addressed : Option ℕ) → EarStands LAG MOST_SLOTS own self.now heard sent addressed → result ≡ addressed }
     {
@@ -143,6 +201,7 @@ impl Ear {
     }
 
     /// Whether the channel is ignored in the next tick.
+    #[inline(always)]
     pub fn is_ignored(&self) -> bool
         ensures { (own : ℕ) (heard : List Sample) (sent addressed : Option ℕ) → EarStands LAG MOST_SLOTS own self.now heard sent addressed →
             result ≡ ignored_from LAG heard sent }
@@ -170,6 +229,7 @@ fn is_for(own: u8, command: Command) -> bool
 }
 
 // The quiet ticks of the terminal's own transmission with one tick more, until it has ended.
+#[inline(always)]
 fn sending_after(sending: Option<u8>, sample: Sample, begins: bool) -> Option<u8>
     ensures { result ≡ still_sending LAG (sending_from begins sending) sample }
 {

@@ -4,4 +4,4 @@
 
 mod ear;
 
-pub use ear::{Ear, Heard, HeardBurst, MOST_SLOTS};
+pub use ear::{Ear, Heard, HeardBurst, HeardTick, MOST_SLOTS};

@@ -1,4 +1,4 @@
-use Rattle.std.proofs.Common.{◌≡◌, ℕ, refl, sym, []}
+use Rattle.std.proofs.Common.{refl}
 use Rattle.bus_line.specs.declared.cutter.TheConstants.{LAG}
 use Rattle.bus_line.proofs.CutLaws.{rests-alone}
 use Rattle.bus_line.proofs.CollectLaws.{running-off}
