@@ -1,6 +1,6 @@
 -- When control is accepted: while an answer that accepts runs, in the tick in which the end of its own burst is known.
 use Rattle.std.proofs.Common.{◌≡◌, ℕ, ◌+◌, ◌-◌, ◌<◌, Bool, true, false, ◌&&◌, ◌||◌, ◌==◌, nat_le, List, ◌∷◌, length, Option, Some, None, refl, sym, ap, ◌∙◌, subst, arith, inl, inr, if◌then◌else◌}
-use Rattle.std.specs.Prelude.{is_some}
+use Rattle.std.specs.Prelude.{is_some, is_none}
 use Rattle.std.proofs.lemmas.Bool.{cases_lt, cases_Bool, eqb-true}
 use Rattle.std.proofs.lemmas.Bool.Decides.{nat_tests}
 use Rattle.bus_base.specs.Samples.{sample_on}
@@ -27,6 +27,7 @@ use Rattle.bus_terminal.specs.declared.listening.Listening.{Listening}
 use Rattle.bus_terminal.specs.declared.promised.Promised.{Promised}
 use Rattle.bus_terminal.specs.declared.owing.Owing.{Owing}
 use Rattle.bus_terminal.specs.declared.answering.Answering.{Answering}
+use Rattle.bus_terminal.specs.declared.state.Sends.{Sends}
 use Rattle.bus_terminal.specs.declared.state.TerminalNext.{TerminalNext}
 use Rattle.bus_terminal.proofs.Heard.{length-heard}
 use Rattle.bus_terminal.proofs.Ends.{ended-place}
@@ -107,6 +108,10 @@ pub kept-accepts : (k : ℕ) (terminal : TerminalData) (loads : List TimedLoad) 
 kept-accepts k terminal loads past x s words true kept = rw kept refl
 kept-accepts k terminal loads past x s words false kept = refl
 
+none-if : (b : Bool) (o : Option ℕ) → o ≡ None → (if b then o else None) ≡ None
+none-if true o e = e
+none-if false o e = refl
+
 pub owing-accepts : (k : ℕ) (terminal : TerminalData) (loads : List TimedLoad) (state : Owing) (now : Moment) (past : List Moment) (s : Standing) →
     OwingStands k terminal loads state past s → accepted_on k terminal loads now past s ≡ None
 owing-accepts k terminal loads state now past s st =
@@ -118,10 +123,26 @@ owing-accepts k terminal loads state now past s st =
     (arith, length-heard s.channel past, st.early)) e first) in
     ap (accepted_by k terminal loads heard x s) st.sends.duty
     ∙ kept-accepts k terminal loads heard x s state.sends.answer.words.items state.sends.answer.acceptance st.kept
-    ∙ either state.sends.answer.acceptance (heard_status due (ended_now k (x ∷ heard))) none where
-      either : (b : Bool) (o : Option ℕ) → o ≡ None → (if b then o else None) ≡ None
-      either true o e = e
-      either false o e = refl
+    ∙ none-if state.sends.answer.acceptance (heard_status due (ended_now k (x ∷ heard))) none
+
+-- an answer that has no end yet wasn't heard whole
+not-ended : (o : Option ℕ) (n : ℕ) → o ≡ Some n → is_none o ≡ true → ⊥
+not-ended None n e h = cc
+not-ended (Some m) n e h = cc
+
+pub running-accepts : (k : ℕ) (terminal : TerminalData) (loads : List TimedLoad) (state : Answering) (now : Moment) (past : List Moment) (s : Standing) →
+    AnsweringStands k terminal loads state past s → is_none (end_since k (heard_on s.channel (now ∷ past)) (due_after terminal s.end)) ≡ true →
+    accepted_on k terminal loads now past s ≡ None
+running-accepts k terminal loads state now past s st runs =
+    let heard : List Sample = heard_on s.channel past in
+    let x : Sample = sample_on now.shown s.channel in
+    let due : ℕ = due_after terminal s.end in
+    let none : heard_status due (ended_now k (x ∷ heard)) ≡ None =
+    status-unless due (ended_now k (x ∷ heard)) (λ burst e first. not-ended (end_since k (x ∷ heard) due) (end_of burst)
+    (ap (end_since k (x ∷ heard)) (sym first) ∙ end_since-ended k (x ∷ heard) burst e) runs) in
+    ap (accepted_by k terminal loads heard x s) st.sends.duty
+    ∙ kept-accepts k terminal loads heard x s state.sends.answer.words.items state.sends.answer.acceptance st.kept
+    ∙ none-if state.sends.answer.acceptance (heard_status due (ended_now k (x ∷ heard))) none
 
 -- ---- the burst that ended, as the ears tell it
 
@@ -163,11 +184,12 @@ ears-told k own told heard past s B h = h.heard_b.burst
 -- what the code tests of an answer that runs is what the definition says
 pub answering-accepts : (k : ℕ) (terminal : TerminalData) (loads : List TimedLoad) (state : Answering) (told : Listened) (now : Moment)
     (past : List Moment) (s : Standing)
-    (n due : ℕ) (accepted : Bool) →
-    AnsweringStands k terminal loads state past s → AreListened k terminal.address told (now ∷ past) past s → length past ≡ n → due ≡ n - state.sent →
-    accepted ≡ (state.sends.answer.acceptance && is_status due (told_on state.sends.channel told)) →
+    (n due : ℕ) (sends : Sends) (accepted : Bool) →
+    AnsweringStands k terminal loads state past s → AreListened k terminal.address told (now ∷ past) past s → length past ≡ n → sends ≡ state.sends →
+    due ≡ n - state.sent →
+    accepted ≡ (sends.answer.acceptance && is_status due (told_on sends.channel told)) →
     accepted ≡ is_some (accepted_on k terminal loads now past s)
-answering-accepts k terminal loads state told now past s n due accepted st listened here due_is is =
+answering-accepts k terminal loads state told now past s n due sends accepted st listened here same due_is is =
     let heard : List Sample = heard_on s.channel past in
     let x : Sample = sample_on now.shown s.channel in
     let first : ℕ = due_after terminal s.end in
@@ -176,6 +198,7 @@ answering-accepts k terminal loads state told now past s n due accepted st liste
     told-status MOST_SLOTS terminal.address (told_on s.channel told) (ended_now k (x ∷ heard)) first (ears-told k terminal.address told
     (now ∷ past) past s s.channel listened) in
     is
+    ∙ ap (λ (x : Sends). x.answer.acceptance && is_status due (told_on x.channel told)) same
     ∙ ap (λ (d : ℕ). state.sends.answer.acceptance && is_status d (told_on state.sends.channel told)) begun
     ∙ ap (λ (c : Channel). state.sends.answer.acceptance && is_status first (told_on c told)) (sym st.sends.channel)
     ∙ ap (λ (b : Bool). state.sends.answer.acceptance && b) status

@@ -14,6 +14,7 @@ use Rattle.bus_model.specs.Hearing.{Moment, heard_on}
 use Rattle.bus_model.specs.Standing.{Standing, superseded, ignored_from, mark_on, is_owed}
 use Rattle.bus_model.specs.Terminal.{marked_by, order_now, given_up, is_over, begins}
 use Rattle.bus_terminal.specs.Holding.{EarsStand, Listens, begins_on}
+use Rattle.bus_terminal.specs.Hearing.{HasListened}
 use Rattle.bus_terminal.specs.Stands.{CommonStands, AnsweringStands, NextStands, StateStands, IsSending, TakenIs, AcceptedIs, rests}
 use Rattle.bus_terminal.specs.Steps.{answering_on, begins_told, acceptance_told}
 use Rattle.bus_terminal.specs.declared.common.Common.{Common}
@@ -120,6 +121,17 @@ answering-left k terminal loads common past s sends sent false false same is new
 answering-left k terminal loads common past s sends sent false true same is newer_is within over at mark =
     record { common = same; sends = is; kept = kept-when k terminal past s (sym newer_is) within; runs = over; sent = at; marked = λ some. mark }
 
+-- its channel is ignored until the answer's end is known
+pub ignored-due : (k : ℕ) (terminal : TerminalData) (loads : List TimedLoad) (state : Answering) (past : List Moment) (now : Moment) (s : Standing)
+    (ignored : Bool) →
+    AnsweringStands k terminal loads state past s →
+    ignored ≡ ignored_from k (heard_on state.sends.channel (now ∷ past)) (mark_on (marked_by k terminal now past s s).sent state.sends.channel) →
+    ignored ≡ is_none (end_since k (heard_on s.channel (now ∷ past)) (due_after terminal s.end))
+ignored-due k terminal loads state past now s ignored st is =
+    let left : Standing = marked_by k terminal now past s s in
+    is ∙ ap (λ (c : Channel). ignored_from k (heard_on c (now ∷ past)) (mark_on left.sent c)) (sym st.sends.channel)
+    ∙ ap (ignored_from k (heard_on s.channel (now ∷ past))) (answer-mark k terminal loads state past now s st)
+
 pub answering-state : (k : ℕ) (terminal : TerminalData) (loads : List TimedLoad) (state : Answering) (common : Common) (past : List Moment)
     (now : Moment) (s : Standing) (sent : ℕ) (newer ignored : Bool) →
     AnsweringStands k terminal loads state past s → common.plan ≡ state.common.plan → common.memory ≡ state.common.memory →
@@ -132,10 +144,8 @@ answering-state k terminal loads state common past now s sent newer ignored st p
     let due : ℕ = due_after terminal s.end in
     let old = kept-parts k terminal past s st.kept in
     let mark : mark_on left.sent s.channel ≡ Some due = answer-mark k terminal loads state past now s st in
-    let ignored_here : ignored ≡ ignored_from k (heard_on s.channel (now ∷ past)) (mark_on left.sent s.channel) =
-    ignored_is ∙ ap (λ (c : Channel). ignored_from k (heard_on c (now ∷ past)) (mark_on left.sent c)) (sym st.sends.channel) in
-    let ignored_due : ignored ≡ is_none (end_since k (heard_on s.channel (now ∷ past)) due) = ignored_here ∙ ap (ignored_from k (heard_on s.channel
-    (now ∷ past))) mark in
+    let ignored_due : ignored ≡ is_none (end_since k (heard_on s.channel (now ∷ past)) due) =
+    ignored-due k terminal loads state past now s ignored st ignored_is in
     let late : nat_lt (length (heard_on s.channel past)) due ≡ false = le-ltb (length (heard_on s.channel past)) due (omega
     (arith, length-heard s.channel past, st.sent)) in
     let within : heard_within (heard_on s.channel (now ∷ past)) s.end due ≡ false =
@@ -161,3 +171,18 @@ answering-none k terminal loads state common past now s sent newer ignored accep
     let quiet = none-next k terminal loads (answering_on common state.sends sent newer ignored) past now s none
     (answering-state k terminal loads state common past now s sent newer ignored st plan memory hear more newer_is ignored_is) in
     record { state = quiet.state; taken = acceptance-takes accepted (length past) _ _ quiet.taken; accepted = acceptance-is accepted end is }
+
+-- the same, with the answer as the state has it after the tick
+pub answering-waits : (k : ℕ) (terminal : TerminalData) (loads : List TimedLoad) (before : Answering) (common : Common) (sends : Sends)
+    (past : List Moment) (now : Moment) (s : Standing) (sent : ℕ) (newer ignored accepted : Bool) (end : Option ℕ) →
+    accepted ≡ is_some end →
+    AnsweringStands k terminal loads before past s → order_now k terminal (now ∷ past) s ≡ None → HasListened k terminal before.common common past now s →
+    sends ≡ before.sends → sent ≡ suc before.sent → newer ≡ superseded k (marked_by k terminal now past s s) →
+    ignored ≡ ignored_from k (heard_on sends.channel (now ∷ past)) (mark_on (marked_by k terminal now past s s).sent sends.channel) →
+    NextStands k terminal loads (record { state = answering_on common sends sent newer ignored; event = acceptance_told accepted }) past now s end
+answering-waits k terminal loads before common sends past now s sent newer ignored accepted end is st none listened same more newer_is ignored_is =
+    let left : Standing = marked_by k terminal now past s s in
+    subst (λ (x : Sends). NextStands k terminal loads
+    (record { state = answering_on common x sent newer ignored; event = acceptance_told accepted }) past now s end) (sym same)
+    (answering-none k terminal loads before common past now s sent newer ignored accepted end is st none listened.plan listened.memory (listened.stands s)
+    more newer_is (ignored_is ∙ ap (λ (x : Sends). ignored_from k (heard_on x.channel (now ∷ past)) (mark_on left.sent x.channel)) same))

@@ -114,3 +114,8 @@ pub all-found : (k : ℕ) (terminal : TerminalData) (past : List Moment) (moment
 all-found k terminal past moment s heard waiting out are awaits last =
     either s _ _ _ _ (order-found k terminal past moment s A heard.a heard.a_outrun waiting are.heard_a are.outrun_a awaits)
     (either s _ _ _ _ (order-found k terminal past moment s B heard.b heard.b_outrun waiting are.heard_b are.outrun_b awaits) last)
+
+-- what the code finds in what the ears told
+pub found-as : (found : Option Handled) (listened told_of : Listened) (waiting : Option Waiting) (out : Bool) → found ≡ handled_told listened waiting out →
+    listened ≡ told_of → found ≡ handled_told told_of waiting out
+found-as found listened told_of waiting out e same = e ∙ ap (λ (x : Listened). handled_told x waiting out) same

@@ -19,6 +19,7 @@ pub mod PromisedTicks
 pub mod AnsweringTicks
 pub mod Accepting
 pub mod Alone
+pub mod Staying
 pub mod TickLaws
 pub mod Quiet
 pub mod Shows

@@ -1,11 +1,12 @@
 -- A terminal that owes nothing hears a tick.
-use Rattle.std.proofs.Common.{◌≡◌, ℕ, ◌^◌, ◌<◌, false, List, ◌∷◌, length, Some, None, refl, sym, subst, arith}
+use Rattle.std.proofs.Common.{◌≡◌, ℕ, ◌^◌, ◌<◌, ◌≤◌, ◌∙◌, false, List, ◌∷◌, length, Some, None, refl, sym, subst, arith}
 use Rattle.bus_formats.specs.Plans.{TerminalData}
 use Rattle.bus_model.specs.Memory.{Memory, TimedLoad}
 use Rattle.bus_model.specs.Hearing.{Moment}
 use Rattle.bus_model.specs.Standing.{Standing, Handled}
 use Rattle.bus_model.specs.Terminal.{marked_by, order_now}
 use Rattle.bus_terminal.specs.Holding.{EarsStand, AreListened}
+use Rattle.bus_terminal.specs.Hearing.{HasListened}
 use Rattle.bus_terminal.specs.Handling.{HandledIs, AreHandled, EndFits, handled_told, Awaits}
 use Rattle.bus_terminal.specs.Stands.{CommonStands, ListeningStands, NextStands, StateStands}
 use Rattle.bus_terminal.specs.declared.common.Common.{Common}
@@ -38,6 +39,12 @@ pub fits-of : (k : ℕ) (terminal : TerminalData) (loads : List TimedLoad) (comm
 fits-of k terminal loads common past now s handled order n st here small is handled_is =
     handled-fits k (now ∷ past) s handled order handled_is (now-ends k terminal now past s order is) (omega (arith, st.ended, here, small)) (omega
     (arith, here, small))
+
+-- the terminal's address, after the ears have heard the tick
+pub address-of : (k : ℕ) (terminal : TerminalData) (loads : List TimedLoad) (before common : Common) (past : List Moment) (now : Moment) (s : Standing) →
+    CommonStands k terminal loads before past s → HasListened k terminal before common past now s → common.plan.address ≤ 31
+address-of k terminal loads before common past now s st listened =
+    subst (λ (p : TerminalData). p.address ≤ 31) (sym (listened.plan ∙ st.plan)) st.fits.address
 
 -- a state after a tick without an order, by its parts
 pub none-next : (k : ℕ) (terminal : TerminalData) (loads : List TimedLoad) (state : TerminalState) (past : List Moment) (now : Moment) (s : Standing) →

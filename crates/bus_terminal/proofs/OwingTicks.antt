@@ -13,6 +13,7 @@ use Rattle.bus_model.specs.Standing.{Standing, superseded, is_owed, is_promise}
 use Rattle.bus_model.specs.Terminal.{marked_by, order_now, given_up, is_over, begins}
 use Rattle.bus_terminal.specs.Holding.{EarsStand, Listens}
 use Rattle.bus_terminal.specs.Handling.{Awaits}
+use Rattle.bus_terminal.specs.Hearing.{HasListened}
 use Rattle.bus_terminal.specs.Stands.{CommonStands, OwingStands, NextStands, StateStands, IsSending, rests}
 use Rattle.bus_terminal.specs.Steps.{owing_on}
 use Rattle.bus_terminal.specs.declared.common.Common.{Common}
@@ -108,3 +109,15 @@ owing-none k terminal loads state common past now s n heard newer st none plan m
     ∙ (rw (early, old.1) (last (not (is_quiet (sample_on now.shown s.channel))))) ∙ sym tick_heard in
     none-next k terminal loads (owing_on common n state.sends heard newer) past now s none
     (owing-left k terminal loads common n (now ∷ past) left state.sends heard newer same here sends within newer_is (omega (arith, st.early)))
+
+-- the same, with the answer as the state has it after the tick
+pub owing-waits : (k : ℕ) (terminal : TerminalData) (loads : List TimedLoad) (before : Owing) (common : Common) (sends : Sends) (past : List Moment)
+    (now : Moment) (s : Standing) (n : ℕ) (heard newer : Bool) →
+    OwingStands k terminal loads before past s → order_now k terminal (now ∷ past) s ≡ None → HasListened k terminal before.common common past now s →
+    sends ≡ before.sends → n ≡ suc (length past) →
+    heard ≡ not (is_quiet (sample_on now.shown sends.channel)) → newer ≡ superseded k (marked_by k terminal now past s s) →
+    NextStands k terminal loads (record { state = owing_on common n sends heard newer; event = events.Nothing }) past now s None
+owing-waits k terminal loads before common sends past now s n heard newer st none listened same here heard_is newer_is =
+    subst (λ (x : Sends). NextStands k terminal loads (record { state = owing_on common n x heard newer; event = events.Nothing }) past now s None) (sym same)
+    (owing-none k terminal loads before common past now s n heard newer st none listened.plan listened.memory (listened.stands s) here
+    (heard_is ∙ ap (λ (x : Sends). not (is_quiet (sample_on now.shown x.channel))) same) newer_is)

@@ -1,5 +1,5 @@
 -- A relay's receiver that made a promise hears a tick.
-use Rattle.std.proofs.Common.{◌≡◌, ℕ, suc, ◌+◌, ◌≤◌, Bool, true, false, not, ◌&&◌, ◌||◌, ◌==◌, nat_lt, List, ◌∷◌, length, Option, Some, None, refl, sym, ap, ◌∙◌, arith, inl, inr, if◌then◌else◌}
+use Rattle.std.proofs.Common.{◌≡◌, ℕ, suc, ◌+◌, ◌≤◌, Bool, true, false, not, ◌&&◌, ◌||◌, ◌==◌, nat_lt, List, ◌∷◌, length, Option, Some, None, refl, sym, ap, ◌∙◌, subst, arith, inl, inr, if◌then◌else◌}
 use Rattle.std.specs.Option.{option_or}
 use Rattle.std.proofs.lemmas.Bool.{lt-ltb, eqb-true, eq-eqb, cases_Bool}
 use Rattle.std.proofs.lemmas.Bool.Decides.{nat_tests}
@@ -14,20 +14,20 @@ use Rattle.bus_model.specs.Orders.{due_after}
 use Rattle.bus_model.specs.Hearing.{Moment, heard_on}
 use Rattle.bus_model.specs.Standing.{Standing, mark_on, ignored_from, superseded, is_owed, promised_on, runs_out}
 use Rattle.bus_model.specs.Terminal.{marked_by, order_now, given_up, running_out}
-use Rattle.bus_terminal.specs.Holding.{EarsStand, Listens}
+use Rattle.bus_terminal.specs.Holding.{EarsStand, Listens, AreListened}
+use Rattle.bus_terminal.specs.Hearing.{HasListened}
 use Rattle.bus_terminal.specs.Handling.{handled_told, Awaits, AreHandled, IsWaiting, out_with}
 use Rattle.bus_terminal.specs.Stands.{CommonStands, PromisedStands, NextStands, StateStands, IsAwaited}
 use Rattle.bus_terminal.specs.Steps.{promised_on_told}
 use Rattle.bus_terminal.specs.declared.common.Common.{Common}
 use Rattle.bus_terminal.specs.declared.handling.Waiting.{Waiting}
-use Rattle.bus_terminal.specs.declared.handling.Handled.{Handled as HandledTold}
 use Rattle.bus_terminal.specs.declared.common.Listened.{Listened}
 use Rattle.bus_terminal.specs.declared.promised.Promised.{Promised}
 use Rattle.bus_terminal.specs.declared.state.TerminalEvent.TheVariants as events
 use Rattle.bus_terminal.proofs.Heard.{length-heard}
 use Rattle.bus_terminal.proofs.Within.{within-more, within-bound}
 use Rattle.bus_terminal.proofs.Standing.{rests-superseded}
-use Rattle.bus_terminal.proofs.Found.{promised-with}
+use Rattle.bus_terminal.proofs.Found.{promised-with, all-found}
 use Rattle.bus_terminal.proofs.Listened.{none-next, common-kept}
 use Rattle.bus_terminal.proofs.Ticks.{listens-none}
 use Rattle.bus_terminal.proofs.Heeding.{heeded-tick}
@@ -152,6 +152,35 @@ last-none (Some y) b x true e = cc
 last-none None (Some y) x true e = cc
 last-none None None x true e = cc
 
-pub found-with : (found : Option HandledTold) (heard : Listened) (again w : Waiting) (out : Bool) → found ≡ handled_told heard (Some again) out → again ≡ w →
-    found ≡ handled_told heard (Some w) out
-found-with found heard again w out e same = e ∙ ap (λ (x : Waiting). handled_told heard (Some x) out) same
+-- what the code finds, by what it knows of the promise after the tick
+pub promised-found : (k : ℕ) (terminal : TerminalData) (loads : List TimedLoad) (before : Promised) (w : Waiting) (heard : Bool) (past : List Moment)
+    (now : Moment) (s : Standing) (listened : Listened) (out : Bool) →
+    PromisedStands k terminal loads before past s → AreListened k terminal.address listened (now ∷ past) past s → w ≡ before.waiting →
+    heard ≡ (before.heard || not (is_quiet (sample_on now.shown before.waiting.channel))) →
+    out ≡ ((length past == (w.end + relay_wait)) && not heard) → AreHandled (handled_told listened (Some w) out) (order_now k terminal (now ∷ past) s) s
+promised-found k terminal loads before w heard past now s listened out st told w_is heard_is out_is =
+    let since = heard-since k terminal loads before past now s (not (is_quiet (sample_on now.shown before.waiting.channel))) st refl ∙ sym heard_is in
+    let last = runs-out k terminal loads before past now s heard out st since
+    (out_is ∙ ap (λ (x : Waiting). (length past == (x.end + relay_wait)) && not heard) w_is) in
+    subst (λ (x : Waiting). AreHandled (handled_told listened (Some x) out) (order_now k terminal (now ∷ past) s) s) (sym w_is)
+    (all-found k terminal past now s listened (Some before.waiting) out told (promised-awaits k terminal loads before past s st) last)
+
+-- where nothing is handled, the promise stands or is taken back
+pub promised-waits : (k : ℕ) (terminal : TerminalData) (loads : List TimedLoad) (before : Promised) (common : Common) (w : Waiting) (heard : Bool)
+    (past : List Moment) (now : Moment) (s : Standing) (out newer : Bool) →
+    PromisedStands k terminal loads before past s → HasListened k terminal before.common common past now s → w ≡ before.waiting →
+    heard ≡ (before.heard || not (is_quiet (sample_on now.shown before.waiting.channel))) →
+    out ≡ ((length past == (w.end + relay_wait)) && not heard) → out ≡ false → order_now k terminal (now ∷ past) s ≡ None →
+    newer ≡ superseded k (marked_by k terminal now past s s) →
+    NextStands k terminal loads (record { state = promised_on_told common w heard newer; event = events.Nothing }) past now s None
+promised-waits k terminal loads before common w heard past now s out newer st listened w_is heard_is out_is not_out none newer_is =
+    let now_heard : Bool = not (is_quiet (sample_on now.shown before.waiting.channel)) in
+    let out_before : out ≡ ((length past == (before.waiting.end + relay_wait)) && not (before.heard || now_heard)) =
+    out_is ∙ ap (λ (x : Waiting). (length past == (x.end + relay_wait)) && not heard) w_is
+    ∙ ap (λ (b : Bool). (length past == (before.waiting.end + relay_wait)) && not b) heard_is in
+    subst (λ (x : Waiting). NextStands k terminal loads (record { state = promised_on_told common x heard newer; event = events.Nothing }) past now s None)
+    (sym w_is)
+    (subst (λ (b : Bool). NextStands k terminal loads
+    (record { state = promised_on_told common before.waiting b newer; event = events.Nothing }) past now s None) (sym heard_is)
+    (promised-none k terminal loads before common past now s now_heard out newer st none listened.plan listened.memory (listened.stands s) refl
+    out_before not_out newer_is))

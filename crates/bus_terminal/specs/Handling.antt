@@ -26,8 +26,11 @@ use Rattle.bus_terminal.specs.declared.handling.Performed.{Performed}
 abbrev pub WaitFits : Option Waiting → Type 0
 WaitFits waiting = IfSome waiting (λ w. w.end < 2 ^ 60)
 
+abbrev pub in_time : ℕ → ℕ → Bool
+in_time end first = nat_le first (end + relay_wait)
+
 abbrev pub settles_told : Channel → Waiting → HeardBurst → Option Handled
-settles_told c w burst = if same_channel w.channel c && nat_le burst.first (w.end + relay_wait) then Some (told.Settles w burst) else None
+settles_told c w burst = if same_channel w.channel c && in_time w.end burst.first then Some (told.Settles w burst) else None
 
 abbrev pub settles_with : Channel → Option Waiting → HeardBurst → Option Handled
 settles_with c None burst = None

@@ -4,11 +4,12 @@ use Rattle.bus_base.specs.Samples.{same_channel}
 use Rattle.bus_base.specs.declared.samples.Channel.{Channel}
 use Rattle.bus_base.specs.declared.samples.Channel.TheVariants.{A, B}
 use Rattle.bus_formats.specs.Plans.{TerminalData}
-use Rattle.bus_ears.specs.Ears.{EarStands, IsHeard}
+use Rattle.bus_ears.specs.Ears.{EarStands, IsHeard, heard_of}
 use Rattle.bus_ears.specs.declared.ear.TheConstants.{MOST_SLOTS}
 use Rattle.bus_model.specs.Hearing.{Moment, heard_on}
 use Rattle.bus_model.specs.Standing.{Standing, ignored_from, outrun}
 use Rattle.bus_model.specs.Terminal.{begins}
+use Rattle.bus_terminal.specs.declared.common.BothHeard.{BothHeard}
 use Rattle.bus_terminal.specs.declared.common.Ears.{Ears}
 use Rattle.bus_terminal.specs.declared.common.Listened.{Listened}
 
@@ -24,6 +25,10 @@ pub record EarsStand (k own : ℕ) (ears : Ears) (past : List Moment) (s : Stand
 -- the channel on which an answer begins in the tick to come
 abbrev pub Listens : ℕ → TerminalData → Option Channel → List Moment → Standing → Type 0
 Listens k terminal begun past s = (c : Channel) → begins_on begun c ≡ (begins k terminal past s && same_channel s.channel c)
+
+-- what both ears told, with the bursts that they keep
+abbrev pub listened_of : Ears → BothHeard → Listened
+listened_of ears both = record { a = heard_of ears.a both.a; b = heard_of ears.b both.b; a_outrun = both.a_outrun; b_outrun = both.b_outrun }
 
 -- what the ears told of the newest tick, where s stood before it
 pub record AreListened (k own : ℕ) (told : Listened) (heard past : List Moment) (s : Standing) : Type 0 where

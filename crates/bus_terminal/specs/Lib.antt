@@ -7,3 +7,4 @@ pub mod TerminalStands
 pub mod Shown
 pub mod Quiet
 pub mod Heard
+pub mod Hearing

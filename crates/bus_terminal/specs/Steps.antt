@@ -8,6 +8,7 @@ use Rattle.bus_model.specs.Orders.{due_after}
 use Rattle.bus_orders.specs.declared.done.Duty.{Duty}
 use Rattle.bus_orders.specs.declared.done.Duty.TheVariants as duties
 use Rattle.bus_orders.specs.declared.done.Taken.{Taken}
+use Rattle.bus_terminal.specs.declared.common.BothHeard.{BothHeard}
 use Rattle.bus_terminal.specs.declared.common.Common.{Common}
 use Rattle.bus_terminal.specs.declared.common.Listened.{Listened}
 use Rattle.bus_terminal.specs.declared.handling.Waiting.{Waiting}
@@ -16,6 +17,8 @@ use Rattle.bus_terminal.specs.declared.state.TerminalState.{TerminalState}
 use Rattle.bus_terminal.specs.declared.state.TerminalState.TheVariants as states
 use Rattle.bus_terminal.specs.declared.state.TerminalEvent.{TerminalEvent}
 use Rattle.bus_terminal.specs.declared.state.TerminalEvent.TheVariants as events
+use Rattle.bus_terminal.specs.declared.state.Step.{Step}
+use Rattle.bus_terminal.specs.declared.state.Step.TheVariants as steps
 
 abbrev pub listens : Common → TerminalState
 listens common = states.Listening record { common = common }
@@ -77,3 +80,7 @@ is_status due (Some burst) = (burst.first == due) && nat_le (due + 40) burst.end
 -- what is told of a tick without an order
 abbrev pub acceptance_told : Bool → TerminalEvent
 acceptance_told accepted = if accepted then events.Accepted else events.Nothing
+
+-- a state that changes does so by what its ears told
+abbrev pub step_told : Bool → BothHeard → Step
+step_told changes both = if changes then steps.Changes both else steps.Stays

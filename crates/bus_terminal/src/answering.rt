@@ -1,5 +1,5 @@
 //! A terminal whose answer runs.
-ghost use Rattle.std.specs.Prelude.{◌≡◌, ◌<◌, ◌^◌, ◌+◌, ◌==◌, ◌≤◌, ◌&&◌, ℕ, List, length};
+ghost use Rattle.std.specs.Prelude.{◌≡◌, ◌<◌, ◌^◌, ◌+◌, ◌==◌, ◌≤◌, ◌&&◌, ℕ, Bool, List, length};
 ghost use Rattle.bus_line.specs.declared.cutter.TheConstants.{LAG};
 ghost use Rattle.bus_formats.specs.Plans.{TerminalData};
 ghost use Rattle.bus_model.specs.Memory.{TimedLoad};
@@ -9,13 +9,15 @@ ghost use Rattle.bus_model.specs.Sending as sending;
 ghost use Rattle.bus_model.specs.Standing.{Standing};
 ghost use Rattle.bus_model.specs.Terminal.{accepted_on};
 ghost use Rattle.bus_terminal.specs.Stands.{AnsweringStands, NextStands};
+ghost use Rattle.bus_terminal.specs.Hearing.{AnsweringHeard, AfterStep};
+ghost use Rattle.bus_terminal.specs.declared.answering.Answering.{Answering as AnsweringData};
 ghost use Rattle.bus_terminal.specs.Steps.{answering_on, begins_told, acceptance_told};
 ghost use Rattle.bus_terminal.specs.Steps as told;
 
 use crate::Listening;
-use crate::common::{Common, Listened};
-use crate::handling::found;
-use crate::state::{Sends, TerminalEvent, TerminalNext, TerminalState, act};
+use crate::common::{BothHeard, Common, Listened, either};
+use crate::handling::{found, is_found};
+use crate::state::{Sends, Step, TerminalEvent, TerminalNext, TerminalState, act};
 use bus_base::{Channel, Drive, Pair, Part, Tick};
 use bus_ears::HeardBurst;
 use bus_line::sample_of;
@@ -32,27 +34,48 @@ pub struct Answering {
 }
 
 impl Answering {
-    /// Hears what both channels show in the tick `now`, the number of the ticks heard before. `may_accept` says that the terminal's station
-    /// has items left.
-    pub fn hear(self, now: Tick, heard: Pair, may_accept: bool) -> TerminalNext
-        requires { (terminal : TerminalData) × (loads : List TimedLoad) × (past : List Moment) × (s : Standing) × AnsweringStands LAG terminal loads self past s
+    /// Hears what both channels show in the tick `now`, the number of the ticks heard before, and stays unless something is handled or it is left.
+    #[inline(always)]
+    pub(crate) fn listen(&mut self, now: Tick, heard: Pair) -> Step
+        requires { (terminal : TerminalData) × (loads : List TimedLoad) × (past : List Moment) × (s : Standing) × AnsweringStands LAG terminal loads self.old past s
             × (length past ≡ now.0) × (now.0 < 2 ^ 60) }
-        ensures { (terminal : TerminalData) (loads : List TimedLoad) (past : List Moment) (s : Standing) → AnsweringStands LAG terminal loads self past s →
-            length past ≡ now.0 → NextStands LAG terminal loads result past (record { shown = heard; may = may_accept }) s
-            (accepted_on LAG terminal loads (record { shown = heard; may = may_accept }) past s) }
+        ensures { (terminal : TerminalData) (loads : List TimedLoad) (past : List Moment) (s : Standing) (may : Bool) →
+            AnsweringStands LAG terminal loads self.old past s → length past ≡ now.0 →
+            AfterStep LAG terminal loads (TerminalState.Answering self.new) result past (record { shown = heard; may = may }) s
+            (accepted_on LAG terminal loads (record { shown = heard; may = may }) past s) }
+    {
+        let begins = begins_in(self.sent, self.sends.channel);
+        let both = self.common.listen(now.0, heard, begins);
+        let handled = is_found(&self.common.ears, both, &None, false);
+        let newer = self
+            .common
+            .ears
+            .supersede(self.sends.channel, self.sends.end);
+        let ignored = self.common.ears.ignore(self.sends.channel);
+        self.sent += 1;
+        let left = either(newer, !ignored);
+        Step::of(either(handled, left), both)
+    }
+
+    /// The state after the tick `now`, which its ears have heard. `may_accept` says that the terminal's station has items left.
+    pub(crate) fn next(self, now: Tick, both: BothHeard, may_accept: bool) -> TerminalNext
+        requires { (terminal : TerminalData) × (loads : List TimedLoad) × (before : AnsweringData) × (past : List Moment) × (moment : Moment) × (s : Standing)
+            × AnsweringHeard LAG terminal loads before self both past moment s × (length past ≡ now.0) × (now.0 < 2 ^ 60) }
+        ensures { (terminal : TerminalData) (loads : List TimedLoad) (before : AnsweringData) (past : List Moment) (moment : Moment) (s : Standing) →
+            AnsweringHeard LAG terminal loads before self both past moment s → length past ≡ now.0 → moment.may ≡ may_accept →
+            NextStands LAG terminal loads result past moment s (accepted_on LAG terminal loads moment past s) }
     {
         let mut common = self.common;
         let sends = self.sends;
-        let begins = begins_in(self.sent, sends.channel);
-        let listened = common.listen(now.0, heard, begins);
-        let accepted = accepts(&sends, &listened, now.0.saturating_sub(self.sent));
+        let listened = common.tell(both);
+        let accepted = accepts(&sends, &listened, (now.0 + 1).saturating_sub(self.sent));
         match found(listened, None, false) {
             Some(handled) => act(common, now.0, handled, may_accept),
             None => {
                 let newer = common.ears.supersede(sends.channel, sends.end);
                 let ignored = common.ears.ignore(sends.channel);
                 TerminalNext {
-                    state: send_on(common, sends, self.sent + 1, newer, ignored),
+                    state: send_on(common, sends, self.sent, newer, ignored),
                     event: acceptance(accepted),
                 }
             }

@@ -1,5 +1,5 @@
 //! What every state of a terminal has: its description, what it keeps, and an ear for each channel.
-ghost use Rattle.std.specs.Prelude.{◌≡◌, ◌≤◌, ◌<◌, ◌+◌, ◌-◌, ◌∷◌, ◌^◌, ℕ, List, Option, Some, None, length, suc, ◌&&◌, not};
+ghost use Rattle.std.specs.Prelude.{◌≡◌, ◌≤◌, ◌<◌, ◌+◌, ◌-◌, ◌∷◌, ◌^◌, ℕ, List, Option, Some, None, length, suc, ◌&&◌, ◌||◌, not};
 ghost use Rattle.bus_base.specs.declared.samples.Channel.{Channel};
 ghost use Rattle.bus_base.specs.declared.samples.Pair.{Pair};
 ghost use Rattle.bus_base.specs.Samples.{same_channel, other_of, is_quiet, sample_on};
@@ -12,11 +12,13 @@ ghost use Rattle.bus_model.specs.Terminal.{marked_by};
 ghost use Rattle.bus_terminal.specs.Holding as holding;
 ghost use Rattle.bus_model.specs.Memory.{TimedLoad, Memory as Kept};
 ghost use Rattle.bus_terminal.specs.Quiet.{quiet_moments};
+ghost use Rattle.bus_terminal.specs.declared.common.Common.{Common as CommonData};
 ghost use Rattle.bus_terminal.specs.Stands.{CommonStands};
-ghost use Rattle.bus_terminal.specs.Holding.{Listens, EarsStand, AreListened};
+ghost use Rattle.bus_terminal.specs.Holding.{Listens, EarsStand, AreListened, listened_of};
+ghost use Rattle.bus_terminal.specs.Hearing.{HasListened};
 
 use bus_base::{Channel, Pair, Sample};
-use bus_ears::{Ear, Heard};
+use bus_ears::{Ear, Heard, HeardTick};
 use bus_formats::TerminalPlan;
 use bus_line::LAG;
 use bus_orders::Memory;
@@ -37,6 +39,15 @@ pub struct Ears {
 }
 
 /// What both ears told of a tick, and for each channel whether an order on it would be older than a command on the other.
+#[derive(Clone, Copy, Debug)]
+pub struct BothHeard {
+    pub(crate) a: HeardTick,
+    pub(crate) b: HeardTick,
+    pub(crate) a_outrun: bool,
+    pub(crate) b_outrun: bool,
+}
+
+/// The same, with the bursts whose ends became known.
 #[derive(Drop)]
 pub struct Listened {
     pub(crate) a: Heard,
@@ -47,20 +58,21 @@ pub struct Listened {
 
 impl Ears {
     /// Hears both channels in tick `now`, for the terminal with the address `own`, whose own transmission begins on a channel, or on none.
+    #[inline(always)]
     pub(crate) fn listen(
         &mut self,
         own: u8,
         now: u64,
         heard: Pair,
         begins: Option<Channel>,
-    ) -> Listened
+    ) -> BothHeard
         requires { (past : List Moment) × (s : spec.Standing) × EarsStand LAG own self.old past s × (length past ≡ now) × (now < 2 ^ 60) }
         ensures stands { (terminal : TerminalData) (past : List Moment) (s after : spec.Standing) (moment : Moment) → terminal.address ≡ own →
             EarsStand LAG own self.old past s → length past ≡ now → moment.shown ≡ heard → Listens LAG terminal begins past s →
             EarsStand LAG own self.new (moment ∷ past) (marked_by LAG terminal moment past s after) }
         ensures tells { (past : List Moment) (s : spec.Standing) (moment : Moment) → EarsStand LAG own self.old past s → length past ≡ now →
             moment.shown ≡ heard →
-            AreListened LAG own result (moment ∷ past) past s }
+            AreListened LAG own (listened_of self.new result) (moment ∷ past) past s }
     {
         let a_outrun = is_newer(Channel::B, self.b.addressed(), self.a.addressed());
         let b_outrun = is_newer(Channel::A, self.a.addressed(), self.b.addressed());
@@ -70,7 +82,7 @@ impl Ears {
         let b = self
             .b
             .hear(own, now, heard.b, begins_on(begins, Channel::B));
-        Listened {
+        BothHeard {
             a,
             b,
             a_outrun,
@@ -78,7 +90,21 @@ impl Ears {
         }
     }
 
+    /// What the last tick brought, with the bursts, which are moved out.
+    pub(crate) fn tell(&mut self, both: BothHeard) -> Listened
+        ensures told { result ≡ listened_of self.old both }
+        ensures stands { (own : ℕ) (past : List Moment) (s : spec.Standing) → EarsStand LAG own self.old past s → EarsStand LAG own self.new past s }
+    {
+        Listened {
+            a: self.a.tell(both.a),
+            b: self.b.tell(both.b),
+            a_outrun: both.a_outrun,
+            b_outrun: both.b_outrun,
+        }
+    }
+
     /// Whether a valid command came on the other channel after an order was handled whose burst ended at `end`.
+    #[inline(always)]
     pub(crate) fn supersede(&self, channel: Channel, end: u64) -> bool
         requires { end < 2 ^ 60 }
         ensures { (own : ℕ) (past : List Moment) (s : spec.Standing) → EarsStand LAG own self.now past s →
@@ -92,6 +118,7 @@ impl Ears {
     }
 
     /// Whether a channel is ignored in the next tick.
+    #[inline(always)]
     pub(crate) fn ignore(&self, channel: Channel) -> bool
         ensures { (own : ℕ) (past : List Moment) (s : spec.Standing) → EarsStand LAG own self.now past s →
             result ≡ spec.ignored_from LAG (heard_on channel past) (spec.mark_on s.sent channel) }
@@ -103,6 +130,7 @@ impl Ears {
     }
 }
 
+#[inline(always)]
 fn begins_on(begins: Option<Channel>, channel: Channel) -> bool
     ensures { result ≡ holding.begins_on begins channel }
 {
@@ -113,6 +141,7 @@ fn begins_on(begins: Option<Channel>, channel: Channel) -> bool
 }
 
 // A mark is from this tick on.
+#[inline(always)]
 fn is_from(tick: u64, mark: Option<u64>) -> bool
     ensures { result ≡ spec.is_from tick mark }
 {
@@ -123,6 +152,7 @@ fn is_from(tick: u64, mark: Option<u64>) -> bool
 }
 
 // A mark on the other channel is newer than the one on this.
+#[inline(always)]
 fn is_newer(other: Channel, theirs: Option<u64>, own: Option<u64>) -> bool
     ensures { result ≡ spec.is_newer other theirs own }
 {
@@ -135,30 +165,47 @@ fn is_newer(other: Channel, theirs: Option<u64>, own: Option<u64>) -> bool
 
 impl Common {
     /// Hears both channels in tick `now`. The terminal's own transmission begins on a channel, or on none.
-    pub(crate) fn listen(&mut self, now: u64, heard: Pair, begins: Option<Channel>) -> Listened
+    #[inline(always)]
+    pub(crate) fn listen(&mut self, now: u64, heard: Pair, begins: Option<Channel>) -> BothHeard
         requires { (terminal : TerminalData) × (loads : List TimedLoad) × (past : List Moment) × (s : spec.Standing) × CommonStands LAG terminal loads self.old past s
             × (length past ≡ now) × (now < 2 ^ 60) }
-        ensures plan { self.new.plan ≡ self.old.plan }
-        ensures memory { self.new.memory ≡ self.old.memory }
-        ensures stands { (terminal : TerminalData) (loads : List TimedLoad) (past : List Moment) (s after : spec.Standing) (moment : Moment) →
+        ensures listened { (terminal : TerminalData) (loads : List TimedLoad) (past : List Moment) (s : spec.Standing) (moment : Moment) →
             CommonStands LAG terminal loads self.old past s → length past ≡ now → moment.shown ≡ heard → Listens LAG terminal begins past s →
-            EarsStand LAG terminal.address self.new.ears (moment ∷ past) (marked_by LAG terminal moment past s after) }
+            HasListened LAG terminal self.old self.new past moment s }
         ensures tells { (terminal : TerminalData) (loads : List TimedLoad) (past : List Moment) (s : spec.Standing) (moment : Moment) →
             CommonStands LAG terminal loads self.old past s → length past ≡ now → moment.shown ≡ heard →
-            AreListened LAG terminal.address result (moment ∷ past) past s }
+            AreListened LAG terminal.address (listened_of self.new.ears result) (moment ∷ past) past s }
     {
         let own = own_address(&self.plan);
         self.ears.listen(own, now, heard, begins)
     }
+
+    /// What the last tick brought, with the bursts, which are moved out.
+    pub(crate) fn tell(&mut self, both: BothHeard) -> Listened
+        ensures told { result ≡ listened_of self.old.ears both }
+        ensures listened { (terminal : TerminalData) (before : CommonData) (past : List Moment) (s : spec.Standing) (moment : Moment) →
+            HasListened LAG terminal before self.old past moment s → HasListened LAG terminal before self.new past moment s }
+    {
+        self.ears.tell(both)
+    }
 }
 
+#[inline(always)]
 fn own_address(plan: &TerminalPlan) -> u8
     ensures { result ≡ plan.now.address }
 {
     plan.address
 }
 
+#[inline(always)]
+pub(crate) fn either(first: bool, second: bool) -> bool
+    ensures { result ≡ (first || second) }
+{
+    first || second
+}
+
 /// Whether a channel isn't quiet.
+#[inline(always)]
 pub(crate) fn is_heard(heard: Pair, channel: Channel) -> bool
     ensures { result ≡ not (is_quiet (sample_on heard channel)) }
 {

@@ -1,14 +1,16 @@
 //! What a terminal handles in a tick, and what that leaves.
-ghost use Rattle.std.specs.Prelude.{◌≡◌, ◌≤◌, ◌<◌, ◌+◌, ◌^◌, ℕ, Option, Some, None, if◌then◌else◌};
+ghost use Rattle.std.specs.Prelude.{◌≡◌, ◌≤◌, ◌<◌, ◌+◌, ◌^◌, ℕ, Option, Some, None, is_some, if◌then◌else◌};
+ghost use Rattle.bus_ears.specs.Ears.{heard_of};
 ghost use Rattle.bus_base.specs.Samples.{same_channel};
 ghost use Rattle.bus_line.specs.declared.cutter.TheConstants.{LAG};
 ghost use Rattle.bus_model.specs.Standing.{Standing, Handled as Order};
 ghost use Rattle.bus_model.specs.Terminal.{done_by};
+ghost use Rattle.bus_terminal.specs.Holding.{listened_of};
 ghost use Rattle.bus_terminal.specs.Handling as spec;
 
-use crate::common::Listened;
+use crate::common::{BothHeard, Ears, Listened};
 use bus_base::{Channel, Part};
-use bus_ears::{Heard, HeardBurst};
+use bus_ears::{Ear, Heard, HeardBurst, HeardTick};
 use bus_formats::TerminalPlan;
 use bus_orders::{Done, Memory, Promise, keep_promise, obey, unkept};
 use bus_words::Command;
@@ -40,6 +42,60 @@ pub struct Performed {
 
 /// A relay's receiver waits for so many dead ticks.
 pub const RELAY_WAIT: u64 = 30;
+
+/// Whether something is handled in the newest tick, where a promise may stand that may run out in it.
+#[inline(always)]
+pub(crate) fn is_found(
+    ears: &Ears,
+    both: BothHeard,
+    waiting: &Option<Waiting>,
+    runs_out: bool,
+) -> bool
+    requires { spec.WaitFits waiting.now }
+    ensures { result ≡ is_some (spec.handled_told (listened_of ears.now both) waiting.now runs_out) }
+{
+    if is_ordered(Channel::A, &ears.a, both.a, both.a_outrun, waiting) {
+        return true;
+    }
+    if is_ordered(Channel::B, &ears.b, both.b, both.b_outrun, waiting) {
+        return true;
+    }
+    runs_out && waiting.is_some()
+}
+
+#[inline(always)]
+fn is_ordered(
+    channel: Channel,
+    ear: &Ear,
+    tick: HeardTick,
+    outrun: bool,
+    waiting: &Option<Waiting>,
+) -> bool
+    requires { spec.WaitFits waiting.now }
+    ensures { result ≡ is_some (spec.order_told channel (heard_of ear.now tick) outrun waiting.now) }
+{
+    if !tick.ended || tick.ignored {
+        return false;
+    }
+    is_order(channel, ear.last(), outrun, waiting)
+}
+
+// A burst that ended is an order: it has a command that isn't outrun, or it settles a promise.
+fn is_order(channel: Channel, burst: &HeardBurst, outrun: bool, waiting: &Option<Waiting>) -> bool
+    requires { spec.WaitFits waiting.now }
+    ensures { result ≡ is_some (spec.order_with channel outrun waiting.now burst.now burst.now.command) }
+{
+    match burst.command {
+        Some(_) => !outrun,
+        None => match waiting {
+            Some(promised) => {
+                let soon = is_in_time(promised.end, burst.first);
+                promised.channel == channel && soon
+            }
+            None => false,
+        },
+    }
+}
 
 /// What is handled in the newest tick, where a promise may stand that may run out in it.
 pub(crate) fn found(listened: Listened, waiting: Option<Waiting>, runs_out: bool) -> Option<Handled>
@@ -88,11 +144,20 @@ fn settles(channel: Channel, waiting: Waiting, burst: HeardBurst) -> Option<Hand
     requires { waiting.end < 2 ^ 60 }
     ensures { result ≡ spec.settles_told channel waiting burst }
 {
-    if waiting.channel == channel && burst.first <= waiting.end + RELAY_WAIT {
+    let soon = is_in_time(waiting.end, burst.first);
+    if waiting.channel == channel && soon {
         Some(Handled::Settles(waiting, burst))
     } else {
         None
     }
+}
+
+// A burst that began in the tick `first` began soon enough for a promise after a burst that ended at `end`.
+fn is_in_time(end: u64, first: u64) -> bool
+    requires { end < 2 ^ 60 }
+    ensures { result ≡ spec.in_time end first }
+{
+    first <= end + RELAY_WAIT
 }
 
 /// Does what is handled.

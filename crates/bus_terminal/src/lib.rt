@@ -1,6 +1,6 @@
 //! A remote terminal, apart from any controller (MIL-STD-1553B 4.4.3): what it sends, what it keeps and what it tells, for every history of
-//! both channels. Its states are types, and hearing a tick consumes a state and gives the next. What each state is known to be in ticks is a law
-//! of its own.
+//! both channels. Its states are types. A tick in which nothing is handled, and no state is left, is heard in place; any other consumes the state
+//! and gives the next. What each state is known to be in ticks is a law of its own.
 #![tactic(auto)]
 
 mod answering;

@@ -1,5 +1,5 @@
 //! A terminal that owes nothing.
-ghost use Rattle.std.specs.Prelude.{◌≡◌, ◌<◌, ◌^◌, ℕ, List, length};
+ghost use Rattle.std.specs.Prelude.{◌≡◌, ◌<◌, ◌^◌, ℕ, Bool, List, length};
 ghost use Rattle.bus_line.specs.declared.cutter.TheConstants.{LAG};
 ghost use Rattle.bus_formats.specs.Plans.{TerminalData};
 ghost use Rattle.bus_model.specs.Memory.{TimedLoad};
@@ -7,10 +7,12 @@ ghost use Rattle.bus_model.specs.Hearing.{Moment};
 ghost use Rattle.bus_model.specs.Standing.{Standing};
 ghost use Rattle.bus_model.specs.Terminal.{accepted_on};
 ghost use Rattle.bus_terminal.specs.Stands.{ListeningStands, NextStands};
+ghost use Rattle.bus_terminal.specs.Hearing.{ListeningHeard, AfterStep};
+ghost use Rattle.bus_terminal.specs.declared.listening.Listening.{Listening as ListeningData};
 
-use crate::common::Common;
-use crate::handling::found;
-use crate::state::{TerminalEvent, TerminalNext, TerminalState, act};
+use crate::common::{BothHeard, Common};
+use crate::handling::{found, is_found};
+use crate::state::{Step, TerminalEvent, TerminalNext, TerminalState, act};
 use bus_base::{Pair, Tick};
 
 /// It owes nothing: it waits for a command. What its last order left was carried out, given up, or taken back by a newer command on the other
@@ -22,17 +24,30 @@ pub struct Listening {
 }
 
 impl Listening {
-    /// Hears what both channels show in the tick `now`, the number of the ticks heard before. `may_accept` says that the terminal's station
-    /// has items left.
-    pub fn hear(self, now: Tick, heard: Pair, may_accept: bool) -> TerminalNext
-        requires { (terminal : TerminalData) × (loads : List TimedLoad) × (past : List Moment) × (s : Standing) × ListeningStands LAG terminal loads self past s
+    /// Hears what both channels show in the tick `now`, the number of the ticks heard before, and stays unless something is handled or it is left.
+    #[inline(always)]
+    pub(crate) fn listen(&mut self, now: Tick, heard: Pair) -> Step
+        requires { (terminal : TerminalData) × (loads : List TimedLoad) × (past : List Moment) × (s : Standing) × ListeningStands LAG terminal loads self.old past s
             × (length past ≡ now.0) × (now.0 < 2 ^ 60) }
-        ensures { (terminal : TerminalData) (loads : List TimedLoad) (past : List Moment) (s : Standing) → ListeningStands LAG terminal loads self past s →
-            length past ≡ now.0 → NextStands LAG terminal loads result past (record { shown = heard; may = may_accept }) s
-            (accepted_on LAG terminal loads (record { shown = heard; may = may_accept }) past s) }
+        ensures { (terminal : TerminalData) (loads : List TimedLoad) (past : List Moment) (s : Standing) (may : Bool) →
+            ListeningStands LAG terminal loads self.old past s → length past ≡ now.0 →
+            AfterStep LAG terminal loads (TerminalState.Listening self.new) result past (record { shown = heard; may = may }) s
+            (accepted_on LAG terminal loads (record { shown = heard; may = may }) past s) }
+    {
+        let both = self.common.listen(now.0, heard, None);
+        Step::of(is_found(&self.common.ears, both, &None, false), both)
+    }
+
+    /// The state after the tick `now`, which its ears have heard. `may_accept` says that the terminal's station has items left.
+    pub(crate) fn next(self, now: Tick, both: BothHeard, may_accept: bool) -> TerminalNext
+        requires { (terminal : TerminalData) × (loads : List TimedLoad) × (before : ListeningData) × (past : List Moment) × (moment : Moment) × (s : Standing)
+            × ListeningHeard LAG terminal loads before self both past moment s × (length past ≡ now.0) × (now.0 < 2 ^ 60) }
+        ensures { (terminal : TerminalData) (loads : List TimedLoad) (before : ListeningData) (past : List Moment) (moment : Moment) (s : Standing) →
+            ListeningHeard LAG terminal loads before self both past moment s → length past ≡ now.0 → moment.may ≡ may_accept →
+            NextStands LAG terminal loads result past moment s (accepted_on LAG terminal loads moment past s) }
     {
         let mut common = self.common;
-        let listened = common.listen(now.0, heard, None);
+        let listened = common.tell(both);
         match found(listened, None, false) {
             Some(handled) => act(common, now.0, handled, may_accept),
             None => TerminalNext {

@@ -1,5 +1,5 @@
 //! A terminal that owes an answer, which isn't due yet.
-ghost use Rattle.std.specs.Prelude.{◌≡◌, ◌<◌, ◌^◌, ℕ, List, length};
+ghost use Rattle.std.specs.Prelude.{◌≡◌, ◌<◌, ◌^◌, ℕ, Bool, List, length};
 ghost use Rattle.bus_line.specs.declared.cutter.TheConstants.{LAG};
 ghost use Rattle.bus_formats.specs.Plans.{TerminalData};
 ghost use Rattle.bus_model.specs.Memory.{TimedLoad};
@@ -7,12 +7,14 @@ ghost use Rattle.bus_model.specs.Hearing.{Moment};
 ghost use Rattle.bus_model.specs.Standing.{Standing};
 ghost use Rattle.bus_model.specs.Terminal.{accepted_on};
 ghost use Rattle.bus_terminal.specs.Stands.{OwingStands, NextStands};
+ghost use Rattle.bus_terminal.specs.Hearing.{OwingHeard, AfterStep};
+ghost use Rattle.bus_terminal.specs.declared.owing.Owing.{Owing as OwingData};
 ghost use Rattle.bus_terminal.specs.Steps.{owing_on};
 
 use crate::Listening;
-use crate::common::{Common, is_heard};
-use crate::handling::found;
-use crate::state::{Sends, TerminalEvent, TerminalNext, TerminalState, act, owe};
+use crate::common::{BothHeard, Common, either, is_heard};
+use crate::handling::{found, is_found};
+use crate::state::{Sends, Step, TerminalEvent, TerminalNext, TerminalState, act, due, owe};
 use bus_base::{Pair, Tick};
 
 /// Its answer begins after its own dead ticks, 4 to 20: fewer passed since the end of the burst that it answers (response time, MIL-STD-1553B
@@ -24,18 +26,45 @@ pub struct Owing {
 }
 
 impl Owing {
-    /// Hears what both channels show in the tick `now`, the number of the ticks heard before. `may_accept` says that the terminal's station
-    /// has items left.
-    pub fn hear(self, now: Tick, heard: Pair, may_accept: bool) -> TerminalNext
-        requires { (terminal : TerminalData) × (loads : List TimedLoad) × (past : List Moment) × (s : Standing) × OwingStands LAG terminal loads self past s
+    /// Hears what both channels show in the tick `now`, the number of the ticks heard before, and stays unless something is handled or it is left.
+    #[inline(always)]
+    pub(crate) fn listen(&mut self, now: Tick, heard: Pair) -> Step
+        requires { (terminal : TerminalData) × (loads : List TimedLoad) × (past : List Moment) × (s : Standing) × OwingStands LAG terminal loads self.old past s
             × (length past ≡ now.0) × (now.0 < 2 ^ 60) }
-        ensures { (terminal : TerminalData) (loads : List TimedLoad) (past : List Moment) (s : Standing) → OwingStands LAG terminal loads self past s →
-            length past ≡ now.0 → NextStands LAG terminal loads result past (record { shown = heard; may = may_accept }) s
-            (accepted_on LAG terminal loads (record { shown = heard; may = may_accept }) past s) }
+        ensures { (terminal : TerminalData) (loads : List TimedLoad) (past : List Moment) (s : Standing) (may : Bool) →
+            OwingStands LAG terminal loads self.old past s → length past ≡ now.0 →
+            AfterStep LAG terminal loads (TerminalState.Owing self.new) result past (record { shown = heard; may = may }) s
+            (accepted_on LAG terminal loads (record { shown = heard; may = may }) past s) }
+    {
+        let both = self.common.listen(now.0, heard, None);
+        let handled = is_found(&self.common.ears, both, &None, false);
+        let newer = self
+            .common
+            .ears
+            .supersede(self.sends.channel, self.sends.end);
+        let dropped = is_heard(heard, self.sends.channel);
+        let is_due = now.0 + 1 >= due(&self.common.plan, self.sends.end);
+        let left = either(either(newer, dropped), is_due);
+        Step::of(either(handled, left), both)
+    }
+
+    /// The state after the tick `now`, which its ears have heard. `may_accept` says that the terminal's station has items left.
+    pub(crate) fn next(
+        self,
+        now: Tick,
+        heard: Pair,
+        both: BothHeard,
+        may_accept: bool,
+    ) -> TerminalNext
+        requires { (terminal : TerminalData) × (loads : List TimedLoad) × (before : OwingData) × (past : List Moment) × (moment : Moment) × (s : Standing)
+            × OwingHeard LAG terminal loads before self both past moment s × (length past ≡ now.0) × (now.0 < 2 ^ 60) }
+        ensures { (terminal : TerminalData) (loads : List TimedLoad) (before : OwingData) (past : List Moment) (moment : Moment) (s : Standing) →
+            OwingHeard LAG terminal loads before self both past moment s → length past ≡ now.0 → moment.shown ≡ heard → moment.may ≡ may_accept →
+            NextStands LAG terminal loads result past moment s (accepted_on LAG terminal loads moment past s) }
     {
         let mut common = self.common;
         let sends = self.sends;
-        let listened = common.listen(now.0, heard, None);
+        let listened = common.tell(both);
         match found(listened, None, false) {
             Some(handled) => act(common, now.0, handled, may_accept),
             None => {

@@ -1,5 +1,5 @@
 //! A relay's receiver that promised to take what the transmitter answers.
-ghost use Rattle.std.specs.Prelude.{◌≡◌, ◌<◌, ◌^◌, ◌+◌, ◌==◌, ◌&&◌, ◌||◌, not, ℕ, List, length};
+ghost use Rattle.std.specs.Prelude.{◌≡◌, ◌<◌, ◌^◌, ◌+◌, ◌==◌, ◌&&◌, ◌||◌, not, ℕ, Bool, List, length};
 ghost use Rattle.bus_line.specs.declared.cutter.TheConstants.{LAG};
 ghost use Rattle.bus_formats.specs.Plans.{TerminalData};
 ghost use Rattle.bus_model.specs.Waits.{relay_wait};
@@ -8,12 +8,14 @@ ghost use Rattle.bus_model.specs.Hearing.{Moment};
 ghost use Rattle.bus_model.specs.Standing.{Standing};
 ghost use Rattle.bus_model.specs.Terminal.{accepted_on};
 ghost use Rattle.bus_terminal.specs.Stands.{PromisedStands, NextStands};
+ghost use Rattle.bus_terminal.specs.Hearing.{PromisedHeard, AfterStep};
+ghost use Rattle.bus_terminal.specs.declared.promised.Promised.{Promised as PromisedData};
 ghost use Rattle.bus_terminal.specs.Steps.{promised_on_told};
 
 use crate::Listening;
-use crate::common::{Common, is_heard};
-use crate::handling::{RELAY_WAIT, Waiting, found};
-use crate::state::{TerminalEvent, TerminalNext, TerminalState, act};
+use crate::common::{BothHeard, Common, either, is_heard};
+use crate::handling::{RELAY_WAIT, Waiting, found, is_found};
+use crate::state::{Step, TerminalEvent, TerminalNext, TerminalState, act};
 use bus_base::{Pair, Tick};
 use bus_orders::Promise;
 
@@ -29,26 +31,45 @@ pub struct Promised {
 }
 
 impl Promised {
-    /// Hears what both channels show in the tick `now`, the number of the ticks heard before. `may_accept` says that the terminal's station
-    /// has items left.
-    pub fn hear(self, now: Tick, heard: Pair, may_accept: bool) -> TerminalNext
-        requires { (terminal : TerminalData) × (loads : List TimedLoad) × (past : List Moment) × (s : Standing) × PromisedStands LAG terminal loads self past s
+    /// Hears what both channels show in the tick `now`, the number of the ticks heard before, and stays unless something is handled or it is left.
+    #[inline(always)]
+    pub(crate) fn listen(&mut self, now: Tick, heard: Pair) -> Step
+        requires { (terminal : TerminalData) × (loads : List TimedLoad) × (past : List Moment) × (s : Standing) × PromisedStands LAG terminal loads self.old past s
             × (length past ≡ now.0) × (now.0 < 2 ^ 60) }
-        ensures { (terminal : TerminalData) (loads : List TimedLoad) (past : List Moment) (s : Standing) → PromisedStands LAG terminal loads self past s →
-            length past ≡ now.0 → NextStands LAG terminal loads result past (record { shown = heard; may = may_accept }) s
-            (accepted_on LAG terminal loads (record { shown = heard; may = may_accept }) past s) }
+        ensures { (terminal : TerminalData) (loads : List TimedLoad) (past : List Moment) (s : Standing) (may : Bool) →
+            PromisedStands LAG terminal loads self.old past s → length past ≡ now.0 →
+            AfterStep LAG terminal loads (TerminalState.Promised self.new) result past (record { shown = heard; may = may }) s
+            (accepted_on LAG terminal loads (record { shown = heard; may = may }) past s) }
+    {
+        let both = self.common.listen(now.0, heard, None);
+        self.heard = either(self.heard, is_heard(heard, self.waiting.channel));
+        let out = runs_out(now.0, self.waiting.end, self.heard);
+        let handled = is_found(&self.common.ears, both, &Some(self.waiting), out);
+        let newer = self
+            .common
+            .ears
+            .supersede(self.waiting.channel, self.waiting.end);
+        Step::of(either(handled, newer), both)
+    }
+
+    /// The state after the tick `now`, which its ears have heard. `may_accept` says that the terminal's station has items left.
+    pub(crate) fn next(self, now: Tick, both: BothHeard, may_accept: bool) -> TerminalNext
+        requires { (terminal : TerminalData) × (loads : List TimedLoad) × (before : PromisedData) × (past : List Moment) × (moment : Moment) × (s : Standing)
+            × PromisedHeard LAG terminal loads before self both past moment s × (length past ≡ now.0) × (now.0 < 2 ^ 60) }
+        ensures { (terminal : TerminalData) (loads : List TimedLoad) (before : PromisedData) (past : List Moment) (moment : Moment) (s : Standing) →
+            PromisedHeard LAG terminal loads before self both past moment s → length past ≡ now.0 → moment.may ≡ may_accept →
+            NextStands LAG terminal loads result past moment s (accepted_on LAG terminal loads moment past s) }
     {
         let mut common = self.common;
         let waiting = self.waiting;
-        let listened = common.listen(now.0, heard, None);
-        let since = either(self.heard, is_heard(heard, waiting.channel));
-        let out = runs_out(now.0, waiting.end, since);
+        let out = runs_out(now.0, waiting.end, self.heard);
+        let listened = common.tell(both);
         match found(listened, Some(again(&waiting)), out) {
             Some(handled) => act(common, now.0, handled, may_accept),
             None => {
                 let newer = common.ears.supersede(waiting.channel, waiting.end);
                 TerminalNext {
-                    state: wait_on(common, waiting, since, newer),
+                    state: wait_on(common, waiting, self.heard, newer),
                     event: TerminalEvent::Nothing,
                 }
             }
@@ -68,12 +89,6 @@ fn again(waiting: &Waiting) -> Waiting
             transmitter: waiting.promise.transmitter,
         },
     }
-}
-
-fn either(first: bool, second: bool) -> bool
-    ensures { result ≡ (first || second) }
-{
-    first || second
 }
 
 // The 31st dead tick was quiet, as all before it.

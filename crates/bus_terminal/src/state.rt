@@ -1,5 +1,5 @@
 //! The states of a terminal, and what a tick leaves.
-ghost use Rattle.std.specs.Prelude.{◌≡◌, ◌≤◌, ◌<◌, ◌+◌, ◌^◌, ◌∷◌, ℕ, List, Option, Some, None, length};
+ghost use Rattle.std.specs.Prelude.{◌≡◌, ◌≤◌, ◌<◌, ◌+◌, ◌^◌, ◌∷◌, ℕ, Bool, List, Option, Some, None, length};
 ghost use Rattle.bus_line.specs.declared.cutter.TheConstants.{LAG};
 ghost use Rattle.bus_formats.specs.Plans.{TerminalData};
 ghost use Rattle.bus_model.specs.Memory.{TimedLoad};
@@ -12,9 +12,10 @@ ghost use Rattle.bus_terminal.specs.Holding.{EarsStand};
 ghost use Rattle.bus_terminal.specs.Stands as stands;
 ghost use Rattle.bus_terminal.specs.Shown as shown;
 ghost use Rattle.bus_terminal.specs.declared.common.Common.{Common as CommonData};
+ghost use Rattle.bus_terminal.specs.Hearing.{StateHeard, AfterStep};
 ghost use Rattle.bus_terminal.specs.Steps as spec;
 
-use crate::common::Common;
+use crate::common::{BothHeard, Common};
 use crate::handling::{Handled, Performed, Waiting, perform};
 use crate::{Answering, Listening, Owing, Promised};
 use bus_base::{Channel, Drive, Pair, Part, Tick};
@@ -43,6 +44,26 @@ pub enum TerminalState {
 pub struct TerminalNext {
     pub state: TerminalState,
     pub event: TerminalEvent,
+}
+
+/// Whether a state stays after a tick that its ears heard, or may change by what they told of it.
+pub(crate) enum Step {
+    Stays,
+    Changes(BothHeard),
+}
+
+impl Step {
+    /// A state that changes does so by what its ears told.
+    #[inline(always)]
+    pub(crate) fn of(changes: bool, both: BothHeard) -> Step
+        ensures { result ≡ spec.step_told changes both }
+    {
+        if changes {
+            Step::Changes(both)
+        } else {
+            Step::Stays
+        }
+    }
 }
 
 /// An answer on a channel, to a burst that ended at `end`.
@@ -161,20 +182,43 @@ pub(crate) fn act(common: Common, now: u64, handled: Handled, may_accept: bool) 
 }
 
 impl TerminalState {
-    /// Hears what both channels show in the tick `now`, the number of the ticks heard before. `may_accept` says that the terminal's station
-    /// has items left.
-    pub fn hear(self, now: Tick, heard: Pair, may_accept: bool) -> TerminalNext
-        requires { (terminal : TerminalData) × (loads : List TimedLoad) × (past : List Moment) × (s : Standing) × stands.StateStands LAG terminal loads self past s
+    /// Hears what both channels show in the tick `now`, the number of the ticks heard before, and stays unless something is handled or it is left.
+    #[inline(always)]
+    pub(crate) fn listen(&mut self, now: Tick, heard: Pair) -> Step
+        requires { (terminal : TerminalData) × (loads : List TimedLoad) × (past : List Moment) × (s : Standing) × stands.StateStands LAG terminal loads self.old past s
             × (length past ≡ now.0) × (now.0 < 2 ^ 60) }
-        ensures { (terminal : TerminalData) (loads : List TimedLoad) (past : List Moment) (s : Standing) → stands.StateStands LAG terminal loads self past s →
-            length past ≡ now.0 → stands.NextStands LAG terminal loads result past (record { shown = heard; may = may_accept }) s
-            (accepted_on LAG terminal loads (record { shown = heard; may = may_accept }) past s) }
+        ensures { (terminal : TerminalData) (loads : List TimedLoad) (past : List Moment) (s : Standing) (may : Bool) →
+            stands.StateStands LAG terminal loads self.old past s → length past ≡ now.0 →
+            AfterStep LAG terminal loads self.new result past (record { shown = heard; may = may }) s
+            (accepted_on LAG terminal loads (record { shown = heard; may = may }) past s) }
     {
         match self {
-            TerminalState::Listening(state) => state.hear(now, heard, may_accept),
-            TerminalState::Promised(state) => state.hear(now, heard, may_accept),
-            TerminalState::Owing(state) => state.hear(now, heard, may_accept),
-            TerminalState::Answering(state) => state.hear(now, heard, may_accept),
+            TerminalState::Listening(state) => state.listen(now, heard),
+            TerminalState::Promised(state) => state.listen(now, heard),
+            TerminalState::Owing(state) => state.listen(now, heard),
+            TerminalState::Answering(state) => state.listen(now, heard),
+        }
+    }
+
+    /// The state after the tick `now`, which its ears have heard. `may_accept` says that the terminal's station has items left.
+    pub(crate) fn next(
+        self,
+        now: Tick,
+        heard: Pair,
+        both: BothHeard,
+        may_accept: bool,
+    ) -> TerminalNext
+        requires { (terminal : TerminalData) × (loads : List TimedLoad) × (past : List Moment) × (moment : Moment) × (s : Standing)
+            × StateHeard LAG terminal loads self both past moment s × (length past ≡ now.0) × (now.0 < 2 ^ 60) }
+        ensures { (terminal : TerminalData) (loads : List TimedLoad) (past : List Moment) (moment : Moment) (s : Standing) →
+            StateHeard LAG terminal loads self both past moment s → length past ≡ now.0 → moment.shown ≡ heard → moment.may ≡ may_accept →
+            stands.NextStands LAG terminal loads result past moment s (accepted_on LAG terminal loads moment past s) }
+    {
+        match self {
+            TerminalState::Listening(state) => state.next(now, both, may_accept),
+            TerminalState::Promised(state) => state.next(now, both, may_accept),
+            TerminalState::Owing(state) => state.next(now, heard, both, may_accept),
+            TerminalState::Answering(state) => state.next(now, both, may_accept),
         }
     }
 }

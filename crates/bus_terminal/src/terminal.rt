@@ -11,11 +11,12 @@ ghost use Rattle.bus_terminal.specs.TerminalStands.{TerminalStands, HasLoads};
 ghost use Rattle.bus_terminal.specs.Quiet.{quiet_moments};
 ghost use Rattle.bus_terminal.specs.Stands.{AreMade, RestsFrom};
 ghost use Rattle.bus_terminal.specs.Shown.{common_of};
+ghost use Rattle.bus_terminal.specs.Hearing.{StateHeard};
 ghost use Rattle.bus_model.specs.Memory as kept;
 
 use crate::Listening;
-use crate::common::{Common, Ears};
-use crate::state::{TerminalEvent, TerminalState};
+use crate::common::{BothHeard, Common, Ears};
+use crate::state::{Step, TerminalEvent, TerminalState};
 use bus_base::{Drive, Pair, Tick};
 use bus_buffers::Buffers;
 use bus_formats::{Load, Registers, TerminalPlan};
@@ -149,11 +150,25 @@ impl Terminal {
             length past ≡ now.0 → NextStands LAG terminal loads (record { state = self.new.state; event = result }) past (record { shown = heard; may = may_accept }) s
             (accepted_on LAG terminal loads (record { shown = heard; may = may_accept }) past s) }
     {
+        match self.state.listen(now, heard) {
+            Step::Stays => TerminalEvent::Nothing,
+            Step::Changes(both) => self.change(now, heard, both, may_accept),
+        }
+    }
+
+    // The ears have heard the tick, in which something is handled or the state is left.
+    fn change(&mut self, now: Tick, heard: Pair, both: BothHeard, may_accept: bool) -> TerminalEvent
+        requires { (terminal : TerminalData) × (loads : List TimedLoad) × (past : List Moment) × (moment : Moment) × (s : Standing)
+            × StateHeard LAG terminal loads self.old.state both past moment s × (length past ≡ now.0) × (now.0 < 2 ^ 60) }
+        ensures { (terminal : TerminalData) (loads : List TimedLoad) (past : List Moment) (moment : Moment) (s : Standing) →
+            StateHeard LAG terminal loads self.old.state both past moment s → length past ≡ now.0 → moment.shown ≡ heard → moment.may ≡ may_accept →
+            NextStands LAG terminal loads (record { state = self.new.state; event = result }) past moment s (accepted_on LAG terminal loads moment past s) }
+    {
         core::mem::replace_with(
             &mut self.state,
-            (now, heard, may_accept),
-            |state: TerminalState, tick: (Tick, Pair, bool)| {
-                let next = state.hear(tick.0, tick.1, tick.2);
+            (now, heard, both, may_accept),
+            |state: TerminalState, tick: (Tick, Pair, BothHeard, bool)| {
+                let next = state.next(tick.0, tick.1, tick.2, tick.3);
                 (next.state, next.event)
             },
         )

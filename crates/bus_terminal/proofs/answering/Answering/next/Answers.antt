@@ -1,66 +1,58 @@
-use Rattle.std.proofs.Common.{◌+◌, ◌∷◌, ◌∙◌, sym, subst, refl, arith, Option}
-use Rattle.bus_base.specs.declared.samples.Channel.{Channel}
-use Rattle.bus_terminal.specs.Holding.{Listens}
+use Rattle.std.proofs.Common.{◌∷◌, ◌∙◌, sym, ap, arith, false, None}
 use Rattle.bus_line.specs.declared.cutter.TheConstants.{LAG}
-use Rattle.bus_model.specs.Hearing.{Moment}
 use Rattle.bus_model.specs.Terminal.{marked_by}
+use Rattle.bus_terminal.specs.declared.state.Sends.{Sends}
 use Rattle.bus_terminal.proofs.Accepting.{answering-accepts, next-silent}
 use Rattle.bus_terminal.proofs.Alone.{ordered-accepts}
-use Rattle.bus_terminal.proofs.Listened.{found-free, fits-of}
+use Rattle.bus_terminal.proofs.Found.{found-as}
+use Rattle.bus_terminal.proofs.Listened.{found-free, fits-of, address-of}
 use Rattle.bus_terminal.proofs.OwingTicks.{sends-awaits}
-use Rattle.bus_terminal.proofs.AnsweringTicks.{answering-listens, answering-none}
+use Rattle.bus_terminal.proofs.AnsweringTicks.{answering-waits}
 use Rattle.bus_terminal.proofs.Ticks.{some-handled, none-handled}
-use Rattle.bus_terminal.proofs.answering.Answering.hear.Goals as goal
+use Rattle.bus_terminal.proofs.answering.Answering.next.Goals as goal
 
-pub listen-listened-requires : goal.listen-listened-requires
-listen-listened-requires c =
-    let (terminal, loads, past, s, st, here, small) = c.requires in
-    (terminal, loads, past, s, st.common, here, small)
+pub act-requires-clause-address : goal.act-requires-clause-address
+act-requires-clause-address c =
+    let (terminal, loads, before, past, moment, s, h, here, small) = c.requires in
+    address-of LAG terminal loads before.common c.tell-listened.new.self past moment s h.stood.common
+    (c.tell-listened.ensures.listened terminal before.common past s moment h.listened)
 
 pub act-requires-clause-end : goal.act-requires-clause-end
 act-requires-clause-end c =
-    let (terminal, loads, past, s, st, here, small) = c.requires in
-    let moment : Moment = record { shown = c.args.heard; may = c.args.may_accept } in
-    let begins = subst (λ (o : Option Channel). Listens LAG terminal o past s) (sym c.begins_in-begins.ensures)
-    (answering-listens LAG terminal loads c.args.self past s st) in
-    let told = c.listen-listened.ensures.tells terminal loads past s moment st.common here refl in
-    let some = some-handled s _ c.in-Some.handled _ (found-free LAG terminal past moment s c.listen-listened.result
-    (sends-awaits LAG s c.args.self.sends st.sends) told) (sym c.found.ensures ∙ c.in-Some.is) in
-    fits-of LAG terminal loads c.args.self.common past moment s c.in-Some.handled some.0 c.args.now.0 st.common here small some.1 some.2
+    let (terminal, loads, before, past, moment, s, h, here, small) = c.requires in
+    let found = found-as c.found.result c.tell-listened.result _ None false c.found.ensures c.tell-listened.ensures.told in
+    let some = some-handled s _ c.in-Some.handled _ (found-free LAG terminal past moment s _ (sends-awaits LAG s before.sends h.stood.sends) h.told)
+    (sym found ∙ c.in-Some.is) in
+    fits-of LAG terminal loads before.common past moment s c.in-Some.handled some.0 c.args.now.0 h.stood.common here small some.1 some.2
 
 pub returns-in-Some : goal.returns-in-Some
-returns-in-Some c = λ terminal loads past s st here.
-    let moment : Moment = record { shown = c.args.heard; may = c.args.may_accept } in
-    let begins = subst (λ (o : Option Channel). Listens LAG terminal o past s) (sym c.begins_in-begins.ensures)
-    (answering-listens LAG terminal loads c.args.self past s st) in
-    let told = c.listen-listened.ensures.tells terminal loads past s moment st.common here refl in
-    let some = some-handled s _ c.in-Some.handled _ (found-free LAG terminal past moment s c.listen-listened.result
-    (sends-awaits LAG s c.args.self.sends st.sends) told) (sym c.found.ensures ∙ c.in-Some.is) in
-    next-silent LAG terminal loads _ past moment s _ (ordered-accepts LAG terminal loads c.args.self moment past s some.0 st some.1)
-    (c.act.ensures terminal loads c.args.self.common past moment s some.0 st.common some.1 some.2 c.listen-listened.ensures.plan
-    c.listen-listened.ensures.memory
-    (λ after. c.listen-listened.ensures.stands terminal loads past s after moment st.common here refl begins) (sym here) refl)
+returns-in-Some c = λ terminal loads before past moment s h here may.
+    let found = found-as c.found.result c.tell-listened.result _ None false c.found.ensures c.tell-listened.ensures.told in
+    let some = some-handled s _ c.in-Some.handled _ (found-free LAG terminal past moment s _ (sends-awaits LAG s before.sends h.stood.sends) h.told)
+    (sym found ∙ c.in-Some.is) in
+    let listened = c.tell-listened.ensures.listened terminal before.common past s moment h.listened in
+    next-silent LAG terminal loads _ past moment s _ (ordered-accepts LAG terminal loads before moment past s some.0 h.stood some.1)
+    (c.act.ensures terminal loads before.common past moment s some.0 h.stood.common some.1 some.2 listened.plan listened.memory listened.stands
+    (sym here) may)
 
 pub returns-in-None : goal.returns-in-None
-returns-in-None c = λ terminal loads past s st here.
-    let moment : Moment = record { shown = c.args.heard; may = c.args.may_accept } in
-    let begins = subst (λ (o : Option Channel). Listens LAG terminal o past s) (sym c.begins_in-begins.ensures)
-    (answering-listens LAG terminal loads c.args.self past s st) in
-    let told = c.listen-listened.ensures.tells terminal loads past s moment st.common here refl in
-    let none = none-handled s _ _ (found-free LAG terminal past moment s c.listen-listened.result
-    (sends-awaits LAG s c.args.self.sends st.sends) told) (sym c.found.ensures ∙ c.in-None.is) in
-    let stands = c.listen-listened.ensures.stands terminal loads past s s moment st.common here refl begins in
-    let accepted = answering-accepts LAG terminal loads c.args.self c.listen-listened.result moment past s c.args.now.0 c.saturating_sub.result
-    c.accepts-accepted.result
-    st told here c.saturating_sub.ensures c.accepts-accepted.ensures in
+returns-in-None c = λ terminal loads before past moment s h here may.
+    let found = found-as c.found.result c.tell-listened.result _ None false c.found.ensures c.tell-listened.ensures.told in
+    let none = none-handled s _ _ (found-free LAG terminal past moment s _ (sends-awaits LAG s before.sends h.stood.sends) h.told)
+    (sym found ∙ c.in-None.is) in
+    let listened = c.tell-listened.ensures.listened terminal before.common past s moment h.listened in
+    let stands = listened.stands s in
+    let accepted = answering-accepts LAG terminal loads before c.tell-listened.result moment past s c.args.now.0 c.saturating_sub.result
+    c.args.self.sends c.accepts-accepted.result h.stood (rw c.tell-listened.ensures.told h.told) here h.sends
+    (omega (arith, c.saturating_sub.ensures, h.sent)) c.accepts-accepted.ensures in
     rw (c.acceptance.ensures, c.send_on.ensures)
-    (answering-none LAG terminal loads c.args.self c.listen-listened.new.self past moment s
-    (c.args.self.sent + 1) c.supersede-newer.result c.ignore-ignored.result c.accepts-accepted.result _ accepted
-    st none c.listen-listened.ensures.plan c.listen-listened.ensures.memory stands (omega arith)
-    (c.supersede-newer.ensures terminal.address (moment ∷ past) (marked_by LAG terminal moment past s s) stands st.sends.channel st.sends.end)
+    (answering-waits LAG terminal loads before c.tell-listened.new.self c.args.self.sends past moment s c.args.self.sent c.supersede-newer.result
+    c.ignore-ignored.result c.accepts-accepted.result _ accepted h.stood none listened h.sends h.sent
+    (c.supersede-newer.ensures terminal.address (moment ∷ past) (marked_by LAG terminal moment past s s) stands
+    (h.stood.sends.channel ∙ sym (ap (λ (x : Sends). x.channel) h.sends)) (h.stood.sends.end ∙ sym (ap (λ (x : Sends). x.end) h.sends)))
     (c.ignore-ignored.ensures terminal.address (moment ∷ past) (marked_by LAG terminal moment past s s) stands))
 
 pub supersede-newer-requires : goal.supersede-newer-requires
 supersede-newer-requires c =
-    let (terminal, loads, past, s, st, here, small) = c.requires in
-    omega (arith, st.sends.end, st.common.ended, here, small)
+    let (terminal, loads, before, past, moment, s, h, here, small) = c.requires in
+    omega (arith, ap (λ (x : Sends). x.end) h.sends, h.stood.sends.end, h.stood.common.ended, here, small)
