@@ -17,7 +17,8 @@ use Rattle.bus_formats.specs.declared.log.TerminalEnd.{TerminalEnd}
 use Rattle.bus_model.specs.Log.{terminals, terminal_end, blocks_of}
 use Rattle.bus_model.specs.World.{world, trace, ticks_on, drives_after, run_is_over, clashes}
 use Rattle.bus_model.specs.WorldLog.{heard_word, heard_burst, attempts, presents, world_log}
-use Rattle.bus_run.specs.Amounts.{most_attempts, most_ticks, most_words, most_bursts}
+use Rattle.bus_run.specs.Amounts.{most_attempts, most_ticks, most_words, most_bursts, most_deliveries}
+use Rattle.bus_run.specs.Deliveries.{delivering}
 use Rattle.bus_run.specs.Ends.{is_outgrown, has_ended}
 use Rattle.bus_run.specs.Stands.{shown_in}
 
@@ -83,6 +84,7 @@ pub record GoesOn (plan : PlanData) (t : ℕ) : Type 0 where
   pub attempts_left : length (attempts LAG plan [] [] [] (world LAG plan [] [] [] t)) ≤ most_attempts plan
   pub words_left : length (map heard_word (valid LAG (world LAG plan [] [] [] t))) ≤ most_words plan
   pub bursts_left : length (map heard_burst (bursts LAG (world LAG plan [] [] [] t))) ≤ most_bursts plan
+  pub deliveries_left : delivering plan (world LAG plan [] [] [] t) ≤ most_deliveries plan
 
 -- a run that has not ended goes on within its bounds
 pub goes-on : (plan : PlanData) (t : ℕ) → has_ended plan t ≡ false → GoesOn plan t
@@ -92,8 +94,15 @@ goes-on plan t on =
     let ticks : nat_le (most_ticks plan) t ≡ false = or-left _ _ on in
     let grown : is_outgrown plan past ≡ false = or-left _ _ (or-right _ _ on) in
     let by-attempts : nat_lt (most_attempts plan) (length (attempts LAG plan [] [] [] past)) ≡ false = or-left _ _ grown in
-    let by-words : nat_lt (most_words plan) (length (valid LAG past)) ≡ false = or-left _ _ (or-right _ _ grown) in
-    let by-bursts : nat_lt (most_bursts plan) (length (bursts LAG past)) ≡ false = or-right _ _ (or-right _ _ grown) in
+    let more : (nat_lt (most_words plan) (length (valid LAG past))
+    || (nat_lt (most_bursts plan) (length (bursts LAG past)) || nat_lt (most_deliveries plan) (delivering plan past))) ≡ false =
+    or-right (nat_lt (most_attempts plan) (length (attempts LAG plan [] [] [] past))) _ grown in
+    let rest : (nat_lt (most_bursts plan) (length (bursts LAG past)) || nat_lt (most_deliveries plan) (delivering plan past)) ≡ false =
+    or-right (nat_lt (most_words plan) (length (valid LAG past))) _ more in
+    let by-words : nat_lt (most_words plan) (length (valid LAG past)) ≡ false = or-left _ _ more in
+    let by-bursts : nat_lt (most_bursts plan) (length (bursts LAG past)) ≡ false = or-left _ _ rest in
+    let by-deliveries : nat_lt (most_deliveries plan) (delivering plan past) ≡ false =
+    or-right (nat_lt (most_bursts plan) (length (bursts LAG past))) _ rest in
     let below : t < most_ticks plan = grind (arith, nat_tests, ticks) in
     let few = most-ticks-few plan in
     record {
@@ -102,6 +111,7 @@ goes-on plan t on =
       attempts_left = grind (arith, nat_tests, by-attempts);
       words_left = rw (length-map (valid LAG past) heard_word) (grind (arith, nat_tests, by-words));
       bursts_left = rw (length-map (bursts LAG past) heard_burst) (grind (arith, nat_tests, by-bursts));
+      deliveries_left = grind (arith, nat_tests, by-deliveries);
     }
 
 -- one holds
@@ -135,9 +145,10 @@ ends-over plan t within small =
     ∙ or-false (is_outgrown plan (world LAG plan [] [] [] t)) (run_is_over LAG plan [] [] [] t) small
 
 -- the test of the room over equal numbers
-pub same-past : (m a w b m' a' w' b' : ℕ) → m ≡ m' → a ≡ a' → w ≡ w' → b ≡ b' →
-    (nat_lt m a || (nat_lt (120 * m) w || nat_lt (3 * m) b)) ≡ (nat_lt m' a' || (nat_lt (120 * m') w' || nat_lt (3 * m') b'))
-same-past m a w b m' a' w' b' em ea ew eb = rw (em, ea, ew, eb) refl
+pub same-past : (m a w b d m' a' w' b' d' : ℕ) → m ≡ m' → a ≡ a' → w ≡ w' → b ≡ b' → d ≡ d' →
+    (nat_lt m a || (nat_lt (120 * m) w || (nat_lt (3 * m) b || nat_lt (3 * m) d)))
+    ≡ (nat_lt m' a' || (nat_lt (120 * m') w' || (nat_lt (3 * m') b' || nat_lt (3 * m') d')))
+same-past m a w b d m' a' w' b' d' em ea ew eb ed = rw (em, ea, ew, eb, ed) refl
 
 -- ---- the log
 

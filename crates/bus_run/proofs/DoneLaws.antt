@@ -6,7 +6,7 @@ use Rattle.std.specs.List.{list_all}
 use Rattle.std.proofs.lemmas.Option.{same_Some}
 use Rattle.bus_station.specs.Roles.{role_by}
 use Rattle.bus_station.specs.declared.role.Role.{Role}
-use Rattle.bus_run.specs.Crews.{takes}
+use Rattle.bus_run.specs.StationRows.{takes}
 
 -- a station that doesn't hold control isn't taking it
 pub takes-by : (holds : Bool) (taking : Option ℕ) → takes (role_by holds (if holds then taking else None)) ≡ not (is_none (if holds then taking else None))

@@ -1,14 +1,15 @@
 -- Objects that are gathered at the front of their list by exchanges.
 use Rattle.std.proofs.Common.{◌≡◌, ◌≢◌, ℕ, suc, ◌+◌, ◌≤◌, ◌<◌, List, [], ◌∷◌, ◌++◌, length, get_or, take}
-use Rattle.std.proofs.Common.{drop, Option, Some, None, refl, arith, ap, sym, ◌∙◌, append_assoc, add-one, ◌⊎◌, inl, inr}
+use Rattle.std.proofs.Common.{drop, Option, Some, None, refl, arith, ap, sym, ◌∙◌, append_assoc, add-one, subst, ◌⊎◌, inl, inr}
 use Rattle.std.proofs.lemmas.Bool.{cases_eq}
-use Rattle.std.specs.Prelude.{slice_get}
+use Rattle.std.specs.Prelude.{slice_get, All}
 use Rattle.std.specs.List.{swap, AllZip}
 use Rattle.std.proofs.Math.ListN.{set}
 use Rattle.std.proofs.Math.Seq.{drop-cons}
 use Rattle.std.proofs.lemmas.List.{take-set-le, take_more_set, take-set, get_or-set_other, length-set}
 use Rattle.std.proofs.lemmas.List.Edits.{swap_is, length-swap}
-use Rattle.std.proofs.lemmas.Option.{slice_get-get_or}
+use Rattle.std.proofs.lemmas.Option.{slice_get-get_or, get_or_from_slice_get, slice_get_within}
+use Rattle.std.proofs.lemmas.List.Elements.{All-get_or}
 use Rattle.bus_run.specs.Kept.{place_of, places_from, IsPicked}
 use Rattle.bus_formats.specs.declared.plan.SubsystemKind.{SubsystemKind}
 use Rattle.bus_formats.specs.declared.plan.SubsystemKind.TheVariants.{Recorder, Tally}
@@ -20,8 +21,8 @@ pub record Untouched {A : Type 0} (old now : List A) (address : ℕ) : Type 0 wh
 
 -- the objects in front are those named so far, and those of the addresses to come stand in their places
 pub record Gathered {A : Type 0} (old now : List A) (named : List (Option SubsystemKind)) (kept address : ℕ) : Type 0 where
-  pub len : length now ≡ 62
-  pub before : length old ≡ 62
+  pub len : length now ≡ length old
+  pub within : All (λ p. p < length old) (places_from 0 named)
   pub few : kept ≤ address
   pub front : (done : List ℕ) × (places_from 0 named ≡ done ++ places_from address (drop address named)) × IsPicked old done (take kept now)
   pub rest : Untouched old now address
@@ -54,6 +55,10 @@ place_is : (kind : SubsystemKind) (a : ℕ) → (place_of kind a ≡ a) ⊎ (pla
 place_is Recorder a = inl refl
 place_is Tally a = inr refl
 
+-- it isn't before its address
+pub place-low : (kind : SubsystemKind) (address place : ℕ) → place ≡ place_of kind address → address ≤ place
+place-low kind address place at = grind (arith, at, place_is kind address)
+
 -- one pair more
 zip_more : {A : Type 0} (R : ℕ → A → Type 0) (ps : List ℕ) (xs : List A) (p : ℕ) (x : A) → AllZip R ps xs → R p x → AllZip R (ps ++ p ∷ []) (xs ++ x ∷ [])
 zip_more R [] [] p x h r = (r, tt)
@@ -67,7 +72,7 @@ pub gathered_none : {A : Type 0} (old now : List A) (named : List (Option Subsys
 gathered_none old now named kept address within none so =
     record {
       len = so.len;
-      before = so.before;
+      within = so.within;
       few = omega (arith, so.few);
       front = (
         so.front.0,
@@ -84,6 +89,40 @@ untouched_item : {A : Type 0} (old now : List A) (address place : ℕ) (d : A) �
 untouched_item old now address place d within rest (inl is) = rest.recorders place d (omega arith) (omega arith)
 untouched_item old now address place d within rest (inr is) = rest.tallies place d (omega arith) (omega arith)
 
+-- ---- the places
+
+-- an element of the list
+pub all-at : {A : Type 0} (P : A → Type 0) (xs : List A) (k : ℕ) (x : A) → All P xs → slice_get xs k ≡ Some x → P x
+all-at P xs k x all at = subst P (get_or_from_slice_get xs k x x at) (All-get_or P xs k x (slice_get_within xs k x at) all)
+
+-- what follows a front
+pub get-after : {A : Type 0} (front rest : List A) (x : A) → slice_get (front ++ x ∷ rest) (length front) ≡ Some x
+get-after [] rest x = refl
+get-after (y ∷ front) rest x = get-after front rest x
+
+-- the places that come, with that of the next address
+pub places-next : (named : List (Option SubsystemKind)) (address place : ℕ) (kind : SubsystemKind) → address < length named →
+    place ≡ place_of kind address → get_or named address None ≡ Some kind →
+    places_from address (drop address named) ≡ place ∷ places_from (suc address) (drop (suc address) named)
+places-next named address place kind within at some =
+    ap (places_from address) (drop-cons named address None within) ∙ ap (λ x. places_from address (x ∷ drop (suc address) named)) some
+    ∙ ap (λ p. p ∷ places_from (suc address) (drop (suc address) named)) (sym at)
+
+-- an address that names nothing has no place
+pub places-pass : (named : List (Option SubsystemKind)) (address : ℕ) → address < length named → get_or named address None ≡ None →
+    places_from address (drop address named) ≡ places_from (suc address) (drop (suc address) named)
+places-pass named address within none =
+    ap (places_from address) (drop-cons named address None within) ∙ ap (λ x. places_from address (x ∷ drop (suc address) named)) none
+
+-- the place of an address that names an object is among all of them
+pub place-within : (named : List (Option SubsystemKind)) (done : List ℕ) (address place n : ℕ) (kind : SubsystemKind) → address < length named →
+    place ≡ place_of kind address → get_or named address None ≡ Some kind →
+    places_from 0 named ≡ done ++ places_from address (drop address named) → All (λ p. p < n) (places_from 0 named) → place < n
+place-within named done address place n kind within at some split all =
+    all-at (λ p. p < n) (places_from 0 named) (length done) place all
+    (ap (λ ps. slice_get ps (length done)) (split ∙ ap (λ ps. done ++ ps) (places-next named address place kind within at some))
+    ∙ get-after done (places_from (suc address) (drop (suc address) named)) place)
+
 -- an address that names an object, at its place
 gathered_at : {A : Type 0} (old now : List A) (named : List (Option SubsystemKind)) (kept address place : ℕ) (kind : SubsystemKind) (d : A) →
     address < 31 → length named ≡ 31 →
@@ -93,21 +132,20 @@ gathered_at old now named kept address place kind d within all at some so choice
     let few = so.few in
     let len = so.len in
     let low : address ≤ place = grind (arith, choice) in
-    let high : place < 62 = grind (arith, choice) in
+    let high : place < length old = place-within named so.front.0 address place (length old) kind (omega arith) at some so.front.1 so.within in
     let item = untouched_item old now address place d within so.rest choice in
     let next : places_from address (drop address named) ≡ place ∷ places_from (suc address) (drop (suc address) named) =
-    ap (places_from address) (drop-cons named address None (omega arith)) ∙ ap (λ x. places_from address (x ∷ drop (suc address) named)) some
-    ∙ ap (λ p. p ∷ places_from (suc address) (drop (suc address) named)) (sym at) in
+    places-next named address place kind (omega arith) at some in
     record {
       len = length-swap now kept place ∙ so.len;
-      before = so.before;
+      within = so.within;
       few = omega (arith, so.few);
       front = (
         so.front.0 ++ place ∷ [],
         so.front.1 ∙ ap (λ xs. so.front.0 ++ xs) next ∙ sym (append_assoc so.front.0 (place ∷ []) _),
         rw (swapped_front now kept place d (omega arith) (omega arith))
             (zip_more (λ p x. slice_get old p ≡ Some x) so.front.0 (take kept now) place (get_or now place d) so.front.2
-            (slice_get-get_or old place d (omega (arith, so.before)) ∙ ap Some (sym item))),
+            (slice_get-get_or old place d high ∙ ap Some (sym item))),
       );
       rest = record {
         recorders = λ k e above below. swapped_other now kept place k e (omega arith) (omega arith) (omega arith) (grind (arith, choice))
@@ -131,7 +169,10 @@ pub gathered_any : {A : Type 0} (old now next : List A) (named : List (Option Su
     address < 31 → length named ≡ 31 →
     place ≡ place_of kind address → get_or named address None ≡ Some kind → Gathered old now named kept address →
     next ≡ swap now kept place → more ≡ kept + 1 → Gathered old next named more (address + 1)
-gathered_any old [] next named kept more address place kind within all at some so is count = let len = so.len in absurd (omega arith)
+gathered_any old [] next named kept more address place kind within all at some so is count =
+    let len = so.len in
+    let high : place < length old = place-within named so.front.0 address place (length old) kind (omega arith) at some so.front.1 so.within in
+    absurd (omega (arith, len, high))
 gathered_any old (d ∷ ys) next named kept more address place kind within all at some so is count =
     let up : address + 1 ≡ suc address = add-one address in
     rw (is, count, up) (gathered_some old (d ∷ ys) named kept address place kind d within all at some so)

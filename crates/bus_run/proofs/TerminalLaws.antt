@@ -22,7 +22,7 @@ use Rattle.bus_model.specs.Log.{terminals_at, terminals, terminal_end, block_end
 use Rattle.bus_model.specs.WorldLog.{present_after, presents}
 use Rattle.bus_run.specs.Terminals.{block_of, blocks_below, so_far, ArePut}
 use Rattle.bus_run.specs.declared.ends.Ends.{Ends}
-use Rattle.bus_run.proofs.CrewLaws.{all-present, take-next, take-all, flat_map-one}
+use Rattle.bus_run.proofs.RowLaws.{all-present, take-next, take-all, flat_map-one}
 
 -- ---- lists
 

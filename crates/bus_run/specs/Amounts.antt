@@ -37,3 +37,7 @@ most_bursts plan = 3 * most_attempts plan
 
 abbrev pub most_words : PlanData → ℕ
 most_words plan = 120 * most_attempts plan
+
+-- a block is taken only where a burst ends
+abbrev pub most_deliveries : PlanData → ℕ
+most_deliveries plan = most_bursts plan

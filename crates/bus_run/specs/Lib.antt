@@ -1,9 +1,11 @@
 pub mod Amounts
+pub mod Deliveries
 pub mod Parts
 pub mod BurstListers
 pub mod Monitors
-pub mod Crews
+pub mod StationRows
 pub mod Ends
 pub mod Terminals
 pub mod Stands
 pub mod Kept
+pub mod Data

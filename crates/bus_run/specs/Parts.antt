@@ -9,7 +9,7 @@ use Rattle.bus_model.specs.World.{clashes}
 use Rattle.bus_station.specs.StationStands.{StationStands}
 use Rattle.bus_station.specs.declared.station.Station.{Station}
 use Rattle.bus_wire.specs.WireStands.{WireStands}
-use Rattle.bus_run.specs.declared.cable.Cable.{Cable}
+use Rattle.bus_run.specs.declared.driven_wire.DrivenWire.{DrivenWire}
 
 -- each station stands for its plan and what the channels showed
 pub record StationsStand (plan : PlanData) (stations : List Station) (past : List Pair) : Type 0 where
@@ -18,8 +18,8 @@ pub record StationsStand (plan : PlanData) (stations : List Station) (past : Lis
       StationStands LAG s (starts plan s) [] [] value past
 
 -- the wire stands for what was driven, with a place for the drive of each station
-pub record CableStands (plan : PlanData) (cable : Cable) (driven : List (List Drive)) : Type 0 where
-  pub wire : WireStands plan.faults cable.wire driven
-  pub drives : length cable.drives.items ≡ length plan.stations
+pub record DrivenWireStands (plan : PlanData) (driven_wire : DrivenWire) (driven : List (List Drive)) : Type 0 where
+  pub wire : WireStands plan.faults driven_wire.wire driven
+  pub drives : length driven_wire.drives.items ≡ length plan.stations
   pub few : length plan.stations ≤ 32
-  pub clashes_are : cable.clashes ≡ clashes plan.faults driven
+  pub clashes_are : driven_wire.clashes ≡ clashes plan.faults driven

@@ -6,9 +6,9 @@ use Rattle.bus_formats.specs.Plans.{PlanData}
 use Rattle.bus_model.specs.Wire.{shown}
 use Rattle.bus_model.specs.World.{world, trace}
 use Rattle.bus_run.specs.Amounts.{most_attempts, most_ticks, most_words, most_bursts}
-use Rattle.bus_run.specs.Parts.{StationsStand, CableStands}
+use Rattle.bus_run.specs.Parts.{StationsStand, DrivenWireStands}
 use Rattle.bus_run.specs.Monitors.{MonitorStands}
-use Rattle.bus_run.specs.Crews.{CrewStands}
+use Rattle.bus_run.specs.StationRows.{RowStands}
 use Rattle.bus_model.specs.WorldLog.{world_log}
 use Rattle.bus_run.specs.Ends.{has_ended}
 use Rattle.bus_run.specs.Terminals.{EndsStand}
@@ -16,8 +16,8 @@ use Rattle.bus_run.specs.declared.finished.FinishedBus.{FinishedBus}
 use Rattle.bus_run.specs.declared.bus.Bus.{Bus}
 
 pub record Stands (plan : PlanData) (ticks : ℕ) (bus : Bus) : Type 0 where
-  pub crew : CrewStands (most_attempts plan) plan bus.crew (world LAG plan [] [] [] ticks)
-  pub cable : CableStands plan bus.cable (trace LAG plan [] [] [] ticks).driven
+  pub row : RowStands (most_attempts plan) plan bus.row (world LAG plan [] [] [] ticks)
+  pub wire : DrivenWireStands plan bus.wire (trace LAG plan [] [] [] ticks).driven
   pub monitor : MonitorStands (most_words plan) (most_bursts plan) bus.monitor (world LAG plan [] [] [] ticks)
   pub ends : EndsStand plan bus.ends
   pub ticks_are : bus.ticks ≡ ticks

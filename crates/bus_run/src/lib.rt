@@ -10,16 +10,18 @@
 pub mod amounts;
 pub mod burst_lister;
 pub mod bus;
-pub mod cable;
 pub mod copies;
-pub mod crew;
+pub mod driven_wire;
 pub mod ends;
 pub mod finished;
 pub mod kept;
+pub mod laws;
 pub mod monitor;
 pub mod objects;
 pub mod prepare;
 pub mod room;
+pub mod station_row;
 
 pub use bus::Bus;
 pub use finished::FinishedBus;
+pub use laws::a_delivery_is_for_data;

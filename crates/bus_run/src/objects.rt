@@ -1,18 +1,35 @@
 //! The objects behind the terminals: room for deliveries, and a delivery to one of them.
-ghost use Rattle.std.specs.Prelude.{◌≡◌, ◌≢◌, ◌≤◌, ◌<◌, ◌+◌, ℕ, map, length, slice_get, vec_len, OnOk, Some};
+ghost use Rattle.std.specs.Prelude.{◌≡◌, ◌≢◌, ◌≤◌, ◌<◌, ◌+◌, ℕ, map, length, slice_get, vec_len, All, OnOk, Some};
 ghost use Rattle.bus_subsystem.specs.Deliveries.{Takes};
+ghost use Rattle.bus_run.specs.Kept.{places_from, HasRoom};
 
-use bus_formats::Delivery;
+use crate::kept::place_of;
+use bus_formats::{Delivery, SubsystemKind};
 use bus_subsystem::Subsystem;
 use std::alloc::AllocError;
 
-/// Makes room for so many deliveries in each object. What they tell and say stays, also where there is no memory.
-pub fn reserve_each(subsystems: &mut Vec<Box<dyn Subsystem>>, n: usize) -> Result<(), AllocError>
+/// Makes room for so many deliveries in each object that the addresses 0 to 30 name. What the objects tell and say stays, also where there is
+/// no memory.
+///
+/// # Errors
+///
+/// `AllocError` where there is no memory for them.
+pub fn reserve_named(
+    subsystems: &mut Vec<Box<dyn Subsystem>>,
+    named: &[Option<SubsystemKind>],
+    n: usize,
+) -> Result<(), AllocError>
+    requires places { All (λ place. place < length subsystems.old.items) (places_from 0 named.now) }
+    requires named { length named.now ≡ 31 }
     ensures told { map (λ b. told b) subsystems.new.items ≡ map (λ b. told b) subsystems.old.items }
     ensures said { map (λ b. said b) subsystems.new.items ≡ map (λ b. said b) subsystems.old.items }
+    ensures len { length subsystems.new.items ≡ length subsystems.old.items }
+    ensures room { OnOk result (All (HasRoom n (map (λ b. spare b) subsystems.new.items)) (places_from 0 named.now)) }
 {
-    for place in 0..subsystems.len() {
-        reserve(&mut subsystems[place], n)?;
+    for address in 0..31 {
+        if let Some(kind) = named[address] {
+            reserve(&mut subsystems[place_of(kind, address)], n)?;
+        }
     }
     Ok(())
 }
@@ -28,11 +45,11 @@ fn reserve(subsystem: &mut Box<dyn Subsystem>, n: usize) -> Result<(), AllocErro
 
 /// The object at the place takes the delivery, and the others stay as they are.
 pub fn deliver(subsystems: &mut Vec<Box<dyn Subsystem>>, place: usize, delivery: Delivery)
-    requires place { place < vec_len subsystems.old }
+    requires place { place < length subsystems.old.items }
     requires room { (b : _) → slice_get subsystems.old.items place ≡ Some b → 0 < spare b }
     requires low { 0 < delivery.sub }
     requires high { delivery.sub < 31 }
-    ensures len { vec_len subsystems.new ≡ vec_len subsystems.old }
+    ensures len { length subsystems.new.items ≡ length subsystems.old.items }
     ensures others { (k : ℕ) → k ≢ place → slice_get subsystems.new.items k ≡ slice_get subsystems.old.items k }
     ensures told { (b : _) (c : _) → slice_get subsystems.old.items place ≡ Some b →
         slice_get subsystems.new.items place ≡ Some c → Takes (told b) (told c) delivery }

@@ -1,19 +1,21 @@
 //! What is made before the first tick.
-ghost use Rattle.std.specs.Prelude.{◌≡◌, ◌≤◌, ◌<◌, ◌+◌, ◌==◌, ◌*◌, ℕ, List, [], length, map, All, IfOk};
+ghost use Rattle.std.specs.Prelude.{◌≡◌, ◌≤◌, ◌<◌, ◌+◌, ◌==◌, ◌*◌, ℕ, List, [], length, map, count_by, is_some, All, IfOk};
 ghost use Rattle.bus_formats.specs.Plans.{PlanData};
+ghost use Rattle.bus_formats.specs.Accepted.{IsAccepted};
 ghost use Rattle.bus_station.specs.Fits.{StationFits};
-ghost use Rattle.bus_run.specs.Crews.{CrewStands};
+ghost use Rattle.bus_run.specs.Kept.{named_in, object_at};
+ghost use Rattle.bus_run.specs.StationRows.{RowStands};
 ghost use Rattle.bus_run.specs.Monitors.{MonitorStands};
-ghost use Rattle.bus_run.specs.Parts.{StationsStand, CableStands};
+ghost use Rattle.bus_run.specs.Parts.{StationsStand, DrivenWireStands};
 ghost use Rattle.bus_run.specs.Terminals.{EndsStand};
 
-use crate::cable::Cable;
 use crate::copies::{copy_faults, copy_station};
-use crate::crew::Crew;
+use crate::driven_wire::DrivenWire;
 use crate::ends::Ends;
 use crate::monitor::Monitor;
+use crate::station_row::StationRow;
 use bus_base::Drive;
-use bus_formats::{Plan, StationPlan};
+use bus_formats::{Plan, StationPlan, SubsystemKind};
 use bus_station::Station;
 use std::alloc::{AllocError, Global};
 
@@ -65,26 +67,73 @@ pub fn places_for(alloc: Global, count: usize) -> Result<Vec<Drive>, AllocError>
     Ok(places)
 }
 
-/// The stations before the first tick, with room for so many attempts and for one more of each.
-pub fn crew_of(alloc: Global, plan: &Plan, most: u64) -> Result<Crew, AllocError>
+/// The place of each station's object, if it names a subsystem, in the order of the plan. The addresses 0 to 30 name these subsystems.
+pub fn objects_of(
+    alloc: Global,
+    stations: &[StationPlan],
+    named: &[Option<SubsystemKind>],
+) -> Result<Vec<Option<usize>>, AllocError>
+    requires { All (λ s. s.terminal.address ≤ length named.now) stations.now }
+    ensures { IfOk result (λ objects. objects.items ≡ map (object_at named.now) stations.now) }
+{
+    let mut objects = Vec::new(alloc);
+    for station in stations {
+        objects.push(object_of(station, named))?;
+    }
+    Ok(objects)
+}
+
+// The place of a station's object, if it names a subsystem.
+fn object_of(station: &StationPlan, named: &[Option<SubsystemKind>]) -> Option<usize>
+    requires { station.now.terminal.address ≤ length named.now }
+    ensures { result ≡ object_at named.now station.now }
+{
+    if station.terminal.subsystem.is_none() {
+        return None;
+    }
+    Some(count_named(&named[..usize::from(station.terminal.address)]))
+}
+
+// How many of these addresses name a subsystem.
+fn count_named(named: &[Option<SubsystemKind>]) -> usize
+    ensures { result ≡ count_by is_some named.now }
+{
+    let mut count = 0;
+    for subsystem in named {
+        if subsystem.is_some() {
+            count += 1;
+        }
+    }
+    count
+}
+
+/// The stations before the first tick, with room for so many attempts and for one more of each. The addresses 0 to 30 name these subsystems.
+pub fn row_of(
+    alloc: Global,
+    plan: &Plan,
+    named: &[Option<SubsystemKind>],
+    most: u64,
+) -> Result<StationRow, AllocError>
+    requires accepted { IsAccepted plan.now }
+    requires named { named.now ≡ named_in plan.now.stations }
     requires fit { All StationFits plan.now.stations }
-    requires few { length plan.now.stations ≤ 32 }
     requires most { most ≤ 0x8000_0000 }
-    ensures { IfOk result (λ crew. CrewStands most plan.now crew []) }
+    ensures { IfOk result (λ row. RowStands most plan.now row []) }
 {
     let stations = stations_of(alloc, plan)?;
     let attempts = Vec::with_capacity(alloc, most as usize + 32)?;
-    Ok(Crew::new(stations, attempts))
+    let objects = objects_of(alloc, plan.stations.as_slice(), named)?;
+    Ok(StationRow::new(stations, attempts, objects))
 }
 
 /// The wire with the faults of a plan, on which nothing was driven yet.
-pub fn cable_of(alloc: Global, plan: &Plan) -> Result<Cable, AllocError>
+pub fn wire_of(alloc: Global, plan: &Plan) -> Result<DrivenWire, AllocError>
     requires { length plan.now.stations ≤ 32 }
-    ensures { IfOk result (λ cable. CableStands plan.now cable []) }
+    ensures { IfOk result (λ wire. DrivenWireStands plan.now wire []) }
 {
     let faults = copy_faults(alloc, plan.faults.as_slice())?;
     let places = places_for(alloc, plan.stations.len())?;
-    Ok(Cable::new(faults, places))
+    Ok(DrivenWire::new(faults, places))
 }
 
 /// A monitor that heard nothing, with room for what so many attempts show.

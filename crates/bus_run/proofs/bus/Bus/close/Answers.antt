@@ -13,7 +13,7 @@ gather-terminals-requires c =
       plan,
       world LAG plan [] [] [] t,
       st.ends,
-      subst (λ ss. StationsStand plan ss (world LAG plan [] [] [] t)) (sym (c.deref.ensures.value ∙ c.into_parts-stations.ensures.stations)) st.crew.stations,
+      subst (λ ss. StationsStand plan ss (world LAG plan [] [] [] t)) (sym (c.deref.ensures.value ∙ c.into_parts-stations.ensures.stations)) st.row.stations,
     )
 
 pub returns : goal.returns
@@ -21,11 +21,11 @@ unfolding BusStands FinishedStands
 returns c plan t st =
     let past = world LAG plan [] [] [] t in
     let stations : StationsStand plan c.deref.result.now past =
-    subst (λ ss. StationsStand plan ss past) (sym (c.deref.ensures.value ∙ c.into_parts-stations.ensures.stations)) st.crew.stations in
+    subst (λ ss. StationsStand plan ss past) (sym (c.deref.ensures.value ∙ c.into_parts-stations.ensures.stations)) st.row.stations in
     record {
-      stations = subst (λ ss. StationsStand plan ss past) (sym c.into_parts-stations.ensures.stations) st.crew.stations;
-      log_is = log-is plan t _ (c.into_parts-stations.ensures.attempts ∙ st.crew.attempts_are) (c.into_lists-words.ensures.words ∙ st.monitor.words_are)
+      stations = subst (λ ss. StationsStand plan ss past) (sym c.into_parts-stations.ensures.stations) st.row.stations;
+      log_is = log-is plan t _ (c.into_parts-stations.ensures.attempts ∙ st.row.attempts_are) (c.into_lists-words.ensures.words ∙ st.monitor.words_are)
           (c.into_lists-words.ensures.bursts ∙ st.monitor.bursts_are) (c.gather-terminals.ensures.terminals plan past st.ends stations)
           (c.gather-terminals.ensures.block_ends plan past st.ends stations) (ap (λ n. record { 0 = n }) st.ticks_are)
-          (c.clashes-clashes.ensures ∙ st.cable.clashes_are);
+          (c.clashes-clashes.ensures ∙ st.wire.clashes_are);
     }

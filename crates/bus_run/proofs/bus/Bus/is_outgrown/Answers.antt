@@ -19,7 +19,8 @@ is_past-requires c =
 pub returns : goal.returns
 unfolding BusStands
 returns c plan t st =
-    c.is_past.ensures ∙ same-past _ _ _ _ _ _ _ _ st.most_attempts_are
-    (ap length (c.attempts.ensures ∙ st.crew.attempts_are))
+    c.is_past.ensures ∙ same-past _ _ _ _ _ _ _ _ _ _ st.most_attempts_are
+    (ap length (c.attempts.ensures ∙ st.row.attempts_are))
     (ap length (c.words.ensures ∙ st.monitor.words_are) ∙ length-map (valid LAG (world LAG plan [] [] [] t)) heard_word)
     (ap length (c.bursts.ensures ∙ st.monitor.bursts_are) ∙ length-map (bursts LAG (world LAG plan [] [] [] t)) heard_burst)
+    (c.delivering.ensures ∙ st.row.delivering_is)

@@ -4,53 +4,53 @@ use Rattle.bus_line.specs.declared.cutter.TheConstants.{LAG}
 use Rattle.bus_model.specs.Wire.{shown}
 use Rattle.bus_model.specs.World.{world, trace}
 use Rattle.bus_run.specs.Amounts.{most_attempts, most_words, most_bursts}
-use Rattle.bus_run.specs.Parts.{StationsStand, CableStands}
-use Rattle.bus_run.specs.Crews.{CrewStands}
+use Rattle.bus_run.specs.Parts.{StationsStand, DrivenWireStands}
+use Rattle.bus_run.specs.StationRows.{RowStands}
 use Rattle.bus_run.specs.Monitors.{MonitorStands}
 use Rattle.bus_run.specs.Stands.{BusStands}
+use Rattle.bus_run.proofs.DeliveryLaws.{serves-moved}
 use Rattle.bus_run.proofs.BusLaws.{world-next, driven-next, world-length, driven-length, goes-on}
 use Rattle.bus_run.proofs.bus.Bus.step.Goals as goal
 
 pub show-shown-requires : goal.show-shown-requires
 unfolding BusStands
-show-shown-requires c =
-    let (plan, t, st, on) = c.requires in
+show-shown-requires g c =
+    let (plan, t, before, st, on, serves) = c.requires in
     let small = (goes-on plan t on).small in
     let ticks = driven-length plan t in (
       plan,
       world LAG plan [] [] [] t,
       (trace LAG plan [] [] [] t).driven,
-      subst (λ ss. StationsStand plan ss (world LAG plan [] [] [] t)) (sym c.stations.ensures) st.crew.stations,
-      st.cable,
+      subst (λ ss. StationsStand plan ss (world LAG plan [] [] [] t)) (sym c.stations.ensures) st.row.stations,
+      st.wire,
       omega (arith, small, ticks),
     )
 
 pub hear-requires : goal.hear-requires
 unfolding BusStands
-hear-requires c =
-    let (plan, t, st, on) = c.requires in
+hear-requires g c =
+    let (plan, t, before, st, on, serves) = c.requires in
     let going = goes-on plan t on in
     let small = going.small in
     let ticks = st.ticks_are in
     let left = going.attempts_left in
-    let are = ap length st.crew.attempts_are in (
+    let are = ap length st.row.attempts_are in (
       most_attempts plan,
       plan,
       world LAG plan [] [] [] t,
-      st.crew,
+      before,
+      st.row,
+      serves,
       world-length plan t ∙ sym st.ticks_are,
       omega (arith, small, ticks),
-      omega (
-        arith,
-        left,
-        are,
-      ),
+      omega (arith, left, are),
+      going.deliveries_left,
     )
 
 pub hear-requires-2 : goal.hear-requires-2
 unfolding BusStands
-hear-requires-2 c =
-    let (plan, t, st, on) = c.requires in
+hear-requires-2 g c =
+    let (plan, t, before, st, on, serves) = c.requires in
     let going = goes-on plan t on in
     let small = going.small in
     let ticks = st.ticks_are in
@@ -70,34 +70,34 @@ hear-requires-2 c =
 
 pub overflow_add-self : goal.overflow_add-self
 unfolding BusStands
-overflow_add-self c =
-    let (plan, t, st, on) = c.requires in
+overflow_add-self g c =
+    let (plan, t, before, st, on, serves) = c.requires in
     let small = (goes-on plan t on).small in
     let ticks = st.ticks_are in
     omega (arith, small, ticks)
 
 pub returns-clause-shown : goal.returns-clause-shown
 unfolding BusStands
-returns-clause-shown c plan t st on =
+returns-clause-shown g c plan t st on =
     let stations : StationsStand plan c.stations.result.now (world LAG plan [] [] [] t) =
-    subst (λ ss. StationsStand plan ss (world LAG plan [] [] [] t)) (sym c.stations.ensures) st.crew.stations in
-    c.show-shown.ensures.pair plan (world LAG plan [] [] [] t) (trace LAG plan [] [] [] t).driven stations st.cable
+    subst (λ ss. StationsStand plan ss (world LAG plan [] [] [] t)) (sym c.stations.ensures) st.row.stations in
+    c.show-shown.ensures.pair plan (world LAG plan [] [] [] t) (trace LAG plan [] [] [] t).driven stations st.wire
     ∙ ap (λ ds. shown plan.faults ds) (sym (driven-next plan t))
 
 pub returns-clause-stands : goal.returns-clause-stands
 unfolding BusStands
-returns-clause-stands c plan t st on =
+returns-clause-stands g c plan t st on =
     let past : List Pair = world LAG plan [] [] [] t in
-    let stations : StationsStand plan c.stations.result.now past = subst (λ ss. StationsStand plan ss past) (sym c.stations.ensures) st.crew.stations in
+    let stations : StationsStand plan c.stations.result.now past = subst (λ ss. StationsStand plan ss past) (sym c.stations.ensures) st.row.stations in
     let here : length past ≡ c.args.self.now.ticks = world-length plan t ∙ sym st.ticks_are in
     let next : c.show-shown.result ∷ past ≡ world LAG plan [] [] [] (suc t) =
-    ap (λ p. p ∷ past) (c.show-shown.ensures.pair plan past (trace LAG plan [] [] [] t).driven stations st.cable ∙ ap (λ ds. shown plan.faults ds) (sym
+    ap (λ p. p ∷ past) (c.show-shown.ensures.pair plan past (trace LAG plan [] [] [] t).driven stations st.wire ∙ ap (λ ds. shown plan.faults ds) (sym
     (driven-next plan t)))
     ∙ sym (world-next plan t) in
     record {
-      crew = subst (λ p. CrewStands (most_attempts plan) plan c.hear.new.self p) next (c.hear.ensures (most_attempts plan) plan past st.crew here);
-      cable = subst (λ ds. CableStands plan c.show-shown.new.self ds) (sym (driven-next plan t))
-          (c.show-shown.ensures.stands plan past (trace LAG plan [] [] [] t).driven stations st.cable);
+      row = subst (λ p. RowStands (most_attempts plan) plan c.hear.new.self p) next (c.hear.ensures.stands (most_attempts plan) plan past st.row here);
+      wire = subst (λ ds. DrivenWireStands plan c.show-shown.new.self ds) (sym (driven-next plan t))
+          (c.show-shown.ensures.stands plan past (trace LAG plan [] [] [] t).driven stations st.wire);
       monitor = subst (λ p. MonitorStands (most_words plan) (most_bursts plan) c.hear-2.new.self p) next
           (c.hear-2.ensures (most_words plan) (most_bursts plan) past st.monitor here);
       ends = st.ends;
@@ -105,3 +105,15 @@ returns-clause-stands c plan t st on =
       most_ticks_are = st.most_ticks_are;
       most_attempts_are = st.most_attempts_are;
     }
+
+pub returns-clause-serves : goal.returns-clause-serves
+unfolding BusStands
+returns-clause-serves g c plan t before st on serves =
+    let past : List Pair = world LAG plan [] [] [] t in
+    let stations : StationsStand plan c.stations.result.now past = subst (λ ss. StationsStand plan ss past) (sym c.stations.ensures) st.row.stations in
+    let here : length past ≡ c.args.self.now.ticks = world-length plan t ∙ sym st.ticks_are in
+    let next : c.show-shown.result ∷ past ≡ world LAG plan [] [] [] (suc t) =
+    ap (λ p. p ∷ past) (c.show-shown.ensures.pair plan past (trace LAG plan [] [] [] t).driven stations st.wire ∙ ap (λ ds. shown plan.faults ds) (sym
+    (driven-next plan t)))
+    ∙ sym (world-next plan t) in
+    serves-moved plan before _ _ _ _ next (c.hear.ensures.serves (most_attempts plan) plan past before st.row here serves)

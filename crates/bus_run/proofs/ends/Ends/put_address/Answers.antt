@@ -3,7 +3,7 @@ use Rattle.std.proofs.lemmas.List.{length-map}
 use Rattle.std.proofs.lemmas.Option.{slice_get_read}
 use Rattle.bus_formats.specs.Plans.{StationData}
 use Rattle.bus_run.specs.Terminals.{so_far, ArePut}
-use Rattle.bus_run.proofs.CrewLaws.{found-at}
+use Rattle.bus_run.proofs.RowLaws.{found-at}
 use Rattle.bus_run.proofs.TerminalLaws.{so-far-more, so-far-turns}
 use Rattle.bus_run.proofs.ends.Ends.put_address.Goals as goal
 

@@ -1,0 +1,59 @@
+-- For which pasts the stations of a plan stand, with the attempts that they ended and what they delivered.
+use Rattle.std.specs.Prelude.{◌≡◌, ℕ, ◌+◌, ◌≤◌, nat_lt, Bool, true, false, if◌then◌else◌, List, [], ◌∷◌}
+use Rattle.std.specs.Prelude.{◌++◌, length, take, flat_map, slice_get, Option, Some, vec_capacity}
+use Rattle.bus_base.specs.declared.samples.Pair.{Pair}
+use Rattle.bus_line.specs.declared.cutter.TheConstants.{LAG}
+use Rattle.bus_formats.specs.Plans.{StationData, PlanData}
+use Rattle.bus_formats.specs.declared.log.Attempt.{Attempt}
+use Rattle.bus_formats.specs.declared.log.Delivery.{Delivery}
+use Rattle.bus_model.specs.Starts.{starts}
+use Rattle.bus_model.specs.WorldLog.{attempts}
+use Rattle.bus_station.specs.StationStands.{StationStands}
+use Rattle.bus_station.specs.Told.{ended_newest}
+use Rattle.bus_station.specs.declared.role.Role.{Role}
+use Rattle.bus_station.specs.declared.role.Role.TheVariants.{Taking}
+use Rattle.bus_station.specs.declared.station.Station.{Station}
+use Rattle.bus_run.specs.Amounts.{most_deliveries}
+use Rattle.bus_run.specs.Deliveries.{deliveries, delivering, served, ObjectsOf, TellsMore}
+use Rattle.bus_run.specs.Parts.{StationsStand}
+use Rattle.bus_run.specs.declared.station_row.StationRow.{StationRow}
+
+-- the row stands for what the channels showed; it has room for an attempt of each station beside so many, and a place for the object of each
+pub record RowStands (most : ℕ) (plan : PlanData) (row : StationRow) (past : List Pair) : Type 0 where
+  pub stations : StationsStand plan row.stations.items past
+  pub attempts_are : row.attempts.items ≡ attempts LAG plan [] [] [] past
+  pub room : most + length row.stations.items ≤ vec_capacity row.attempts
+  pub objects : ObjectsOf plan row.objects.items
+  pub delivering_is : row.delivering ≡ delivering plan past
+
+-- a station with this role is taking control
+abbrev pub takes : Role → Bool
+takes (Taking first) = true
+takes _ = false
+
+-- ---- in the midst of a tick: the stations before this place heard it
+
+abbrev pub heard_at : ℕ → ℕ → Pair → List Pair → List Pair
+heard_at i place shown past = if nat_lt i place then shown ∷ past else past
+
+-- the attempt of a station that ended in the newest tick
+abbrev pub ended_of : PlanData → List Pair → StationData → List Attempt
+ended_of plan past station = ended_newest LAG station (starts plan station) [] [] past
+
+pub record RowHears (plan : PlanData) (place : ℕ) (shown : Pair) (past : List Pair) (row : StationRow) : Type 0 where
+  pub all : length row.stations.items ≡ length plan.stations
+  pub each : (i : ℕ) (s : StationData) (value : Station) → slice_get plan.stations i ≡ Some s → slice_get row.stations.items i ≡ Some value →
+      StationStands LAG s (starts plan s) [] [] value (heard_at i place shown past)
+  pub attempts_are : row.attempts.items ≡ attempts LAG plan [] [] [] past ++ flat_map (ended_of plan (shown ∷ past)) (take place plan.stations)
+  pub objects : ObjectsOf plan row.objects.items
+
+-- of the objects those of the stations before this place tell the tick's deliveries too
+pub record ObjectsHear (plan : PlanData) (objects : List (Option ℕ)) (before : List (Option (List Delivery))) (place : ℕ) (shown : Pair) (past : List Pair)
+    (told : List (Option (List Delivery))) (spare : List ℕ) : Type 0 where
+  pub all : length told ≡ length (served plan)
+  pub all_before : length before ≡ length (served plan)
+  pub all_spare : length spare ≡ length (served plan)
+  pub tells : (i p : ℕ) (s : StationData) (old now : Option (List Delivery)) → slice_get plan.stations i ≡ Some s → slice_get objects i ≡ Some (Some p) →
+      slice_get before p ≡ Some old → slice_get told p ≡ Some now → TellsMore old (deliveries plan s (heard_at i place shown past)) now
+  pub room : (i p : ℕ) (s : StationData) (n : ℕ) → slice_get plan.stations i ≡ Some s → slice_get objects i ≡ Some (Some p) →
+      slice_get spare p ≡ Some n → most_deliveries plan + 1 ≤ n + length (deliveries plan s (heard_at i place shown past))

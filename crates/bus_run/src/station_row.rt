@@ -1,0 +1,199 @@
+//! The stations of a bus, the attempts that they ended, and the deliveries to the objects of their subsystems.
+ghost use Rattle.std.specs.Prelude.{◌≡◌, ◌≤◌, ◌<◌, ◌^◌, ◌+◌, ℕ, suc, Bool, if◌then◌else◌, List, [], ◌∷◌, ◌++◌, map, length, slice_get, Option, Some, is_some};
+ghost use Rattle.std.specs.Prelude.{vec_len, vec_capacity};
+ghost use Rattle.bus_base.specs.declared.samples.Pair.{Pair};
+ghost use Rattle.bus_line.specs.declared.cutter.TheConstants.{LAG};
+ghost use Rattle.bus_formats.specs.Plans.{StationData, PlanData};
+ghost use Rattle.bus_formats.specs.declared.log.Delivery.{Delivery};
+ghost use Rattle.bus_model.specs.Starts.{starts};
+ghost use Rattle.bus_model.specs.World.{is_done};
+ghost use Rattle.std.specs.List.{list_all};
+ghost use Rattle.bus_station.specs.StationStands.{StationStands};
+ghost use Rattle.bus_station.specs.Told.{ended_newest, attempts_told};
+ghost use Rattle.bus_run.specs.Amounts.{most_deliveries};
+ghost use Rattle.bus_run.specs.Deliveries.{delivering, delivered_of, ObjectsOf, Serves, IsHandedOn};
+ghost use Rattle.bus_run.specs.Parts.{StationsStand};
+ghost use Rattle.bus_run.specs.StationRows.{RowStands, RowHears, ObjectsHear, takes};
+
+use crate::objects::deliver;
+use bus_base::{Pair, Tick};
+use bus_formats::{Attempt, Delivery};
+use bus_station::{Role, Station, StationEvent};
+use bus_subsystem::Subsystem;
+
+/// The stations in the order of the plan, the attempts of all of them in the order in which they ended, and what was delivered.
+#[derive(Drop)]
+pub struct StationRow {
+    stations: Vec<Station>,
+    attempts: Vec<Attempt>,
+    // the place of each station's object, if it names a subsystem
+    objects: Vec<Option<usize>>,
+    // in how many ticks some terminal took a block
+    delivering: u64,
+}
+
+impl StationRow {
+    /// Stations that heard nothing yet, with room for their attempts and the places of their objects.
+    pub fn new(
+        stations: Vec<Station>,
+        attempts: Vec<Attempt>,
+        objects: Vec<Option<usize>>,
+    ) -> StationRow
+        requires { attempts.items ≡ [] }
+        ensures { (most : ℕ) (plan : PlanData) → StationsStand plan stations.items [] → most + length stations.items ≤ vec_capacity attempts →
+            ObjectsOf plan objects.items → RowStands most plan result [] }
+    {
+        StationRow {
+            stations,
+            attempts,
+            objects,
+            delivering: 0,
+        }
+    }
+
+    /// Every station hears what both channels showed in the tick `now`, in the order of the plan, and the object of each takes the block that
+    /// its terminal took. There is room for an attempt and a delivery of each. It takes no memory.
+    pub fn hear(&mut self, now: Tick, shown: Pair, subsystems: &mut Vec<Box<dyn Subsystem>>)
+        requires { (most : ℕ) × (plan : PlanData) × (past : List Pair) × (before : List (Option (List Delivery))) × RowStands most plan self.old past
+            × Serves plan before past (map (λ b. told b) subsystems.old.items) (map (λ b. spare b) subsystems.old.items)
+            × (length past ≡ now.0) × (now.0 < 2 ^ 32) × (vec_len self.old.attempts ≤ most) × (delivering plan past ≤ most_deliveries plan) }
+        ensures stands { (most : ℕ) (plan : PlanData) (past : List Pair) → RowStands most plan self.old past → length past ≡ now.0 →
+            RowStands most plan self.new (shown ∷ past) }
+        ensures serves { (most : ℕ) (plan : PlanData) (past : List Pair) (before : List (Option (List Delivery))) → RowStands most plan self.old past →
+            length past ≡ now.0 → Serves plan before past (map (λ b. told b) subsystems.old.items) (map (λ b. spare b) subsystems.old.items) →
+            Serves plan before (shown ∷ past) (map (λ b. told b) subsystems.new.items) (map (λ b. spare b) subsystems.new.items) }
+    {
+        let mut took = false;
+        for place in 0..self.stations.len() {
+            took = took | self.hear_at(place, now, shown, subsystems);
+        }
+        self.delivering = counted(self.delivering, took);
+    }
+
+    // The station at a place hears the tick, after those before it, and its object takes what its terminal took. It answers whether that took
+    // a block.
+    fn hear_at(
+        &mut self,
+        place: usize,
+        now: Tick,
+        shown: Pair,
+        subsystems: &mut Vec<Box<dyn Subsystem>>,
+    ) -> bool
+        requires place { place < length self.old.stations.items }
+        requires stands { (plan : PlanData) × (past : List Pair) × (before : List (Option (List Delivery))) × RowHears plan place shown past self.old
+            × ObjectsHear plan self.old.objects.items before place shown past (map (λ b. told b) subsystems.old.items) (map (λ b. spare b) subsystems.old.items)
+            × (length past ≡ now.0) × (now.0 < 2 ^ 32) × (delivering plan past ≤ most_deliveries plan) }
+        requires room { vec_len self.old.attempts < vec_capacity self.old.attempts }
+        ensures stands { (plan : PlanData) (past : List Pair) → RowHears plan place shown past self.old → length past ≡ now.0 →
+            RowHears plan (place + 1) shown past self.new }
+        ensures took { (plan : PlanData) (past : List Pair) (s : StationData) → RowHears plan place shown past self.old → length past ≡ now.0 →
+            slice_get plan.stations place ≡ Some s → result ≡ is_some (delivered_of plan (shown ∷ past) s) }
+        ensures objects_hear { (plan : PlanData) (past : List Pair) (before : List (Option (List Delivery))) → RowHears plan place shown past self.old →
+            length past ≡ now.0 → ObjectsHear plan self.old.objects.items before place shown past
+            (map (λ b. told b) subsystems.old.items) (map (λ b. spare b) subsystems.old.items) →
+            ObjectsHear plan self.old.objects.items before (place + 1) shown past
+            (map (λ b. told b) subsystems.new.items) (map (λ b. spare b) subsystems.new.items) }
+        ensures all { length self.new.stations.items ≡ length self.old.stations.items }
+        ensures len { vec_len self.new.attempts ≤ vec_len self.old.attempts + 1 }
+        ensures room { vec_capacity self.new.attempts ≡ vec_capacity self.old.attempts }
+        ensures objects { self.new.objects ≡ self.old.objects }
+        ensures delivering { self.new.delivering ≡ self.old.delivering }
+    {
+        match self.stations[place].hear(now, shown) {
+            StationEvent::Nothing => false,
+            StationEvent::Ended(attempt) => {
+                self.attempts.push_reserved(attempt);
+                false
+            }
+            StationEvent::Took(delivery) => {
+                hand_on(subsystems, self.objects[place], delivery);
+                true
+            }
+        }
+    }
+
+    /// Whether every station is idle and none is taking control.
+    pub fn are_done(&self) -> bool
+        ensures { (plan : PlanData) (past : List Pair) → StationsStand plan self.now.stations.items past →
+            result ≡ list_all (is_done LAG plan [] [] [] past) plan.stations }
+    {
+        are_done(&self.stations)
+    }
+
+    /// The stations and the attempts.
+    pub fn into_parts(self) -> (Vec<Station>, Vec<Attempt>)
+        ensures stations { result.0.items ≡ self.stations.items }
+        ensures attempts { result.1.items ≡ self.attempts.items }
+    {
+        (self.stations, self.attempts)
+    }
+
+    /// The stations, in the order of the plan.
+    pub fn stations(&self) -> &[Station]
+        ensures { result.now ≡ self.now.stations.items }
+    {
+        &self.stations
+    }
+
+    /// The attempts that ended so far, in the order in which they ended.
+    pub fn attempts(&self) -> &[Attempt]
+        ensures { result.now ≡ self.now.attempts.items }
+    {
+        &self.attempts
+    }
+
+    /// In how many ticks so far some terminal took a block.
+    pub fn delivering(&self) -> u64
+        ensures { result ≡ self.now.delivering }
+    {
+        self.delivering
+    }
+}
+
+// The object at the place, if there is one, takes the delivery.
+fn hand_on(subsystems: &mut Vec<Box<dyn Subsystem>>, object: Option<usize>, delivery: Delivery)
+    requires place { (p : ℕ) → object ≡ Some p → p < length subsystems.old.items }
+    requires room { (p : ℕ) (b : _) → object ≡ Some p → slice_get subsystems.old.items p ≡ Some b → 0 < spare b }
+    requires low { 0 < delivery.sub }
+    requires high { delivery.sub < 31 }
+    ensures { IsHandedOn object delivery (map (λ b. told b) subsystems.old.items) (map (λ b. told b) subsystems.new.items) (map (λ b. spare b) subsystems.old.items)
+        (map (λ b. spare b) subsystems.new.items) }
+{
+    if let Some(place) = object {
+        deliver(subsystems, place, delivery);
+    }
+}
+
+// So many ticks, and one more where some terminal took a block in it.
+fn counted(ticks: u64, took: bool) -> u64
+    requires { ticks < 2 ^ 60 }
+    ensures { result ≡ (if took then suc ticks else ticks) }
+{
+    if took { ticks + 1 } else { ticks }
+}
+
+fn are_done(stations: &[Station]) -> bool
+    ensures { (plan : PlanData) (past : List Pair) → StationsStand plan stations.now past →
+        result ≡ list_all (is_done LAG plan [] [] [] past) plan.stations }
+{
+    for station in stations {
+        if !is_done(station) {
+            return false;
+        }
+    }
+    true
+}
+
+// Whether a station is idle and isn't taking control.
+fn is_done(station: &Station) -> bool
+    ensures { (plan : PlanData) (s : StationData) (past : List Pair) → StationStands LAG s (starts plan s) [] [] station.now past →
+        result ≡ is_done LAG plan [] [] [] past s }
+{
+    station.is_idle() && !is_taking(station.role())
+}
+
+fn is_taking(role: Role) -> bool
+    ensures { result ≡ takes role }
+{
+    matches!(role, Role::Taking(_))
+}
