@@ -21,7 +21,7 @@ byte-of byte Minus is = grind (arith, nat_tests, common_steps, is)
 byte-of byte Quiet is = grind (arith, nat_tests, common_steps, is)
 
 -- two bytes that are a tick, of which the samples are known
-pair-reads : (a b : ℕ) (x y : Option Sample) (shown : Pair) → sample_of a ≡ x → sample_of b ≡ y → pair_of x y ≡ Some shown →
+pub pair-reads : (a b : ℕ) (x y : Option Sample) (shown : Pair) → sample_of a ≡ x → sample_of b ≡ y → pair_of x y ≡ Some shown →
     ReadsTicks (a ∷ b ∷ []) (shown ∷ [])
 pair-reads a b None y shown one two is = absurd (cc)
 pair-reads a b (Some x) None shown one two is = absurd (cc)

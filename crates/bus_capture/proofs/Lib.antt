@@ -3,3 +3,4 @@ pub mod WriterLaws
 pub mod RoundTrip
 pub mod QuietLaws
 pub mod FrontLaws
+pub mod LineLaws

@@ -83,7 +83,7 @@ step-is [] = nothing []
 step-is (a ∷ []) = feed-or-nothing a [] (a == 10) refl
 step-is (a ∷ b ∷ rest) = pair-or-feed a b rest (a == 46) (b == 46) refl refl
 
-both : (a b : Bool) → (a && b) ≡ true → (a ≡ true) × (b ≡ true)
+pub both : (a b : Bool) → (a && b) ≡ true → (a ≡ true) × (b ≡ true)
 both true b is = (refl, is)
 both false b is = absurd (cc)
 

@@ -1,7 +1,7 @@
 -- Ticks at the front of a piece of text: what a reader may take at once.
-use Rattle.std.specs.Prelude.{◌≡◌, ℕ, zero, suc, ◌+◌, ◌≤◌, ◌==◌, ◌&&◌, Bool, true, false, if◌then◌else◌, List, [], ◌∷◌, ◌++◌, length, reverse, take, Option, Some, None}
+use Rattle.std.specs.Prelude.{◌≡◌, ℕ, zero, suc, ◌+◌, ◌≤◌, ◌==◌, ◌&&◌, ◌||◌, Bool, true, false, if◌then◌else◌, List, [], ◌∷◌, ◌++◌, length, reverse, take, Option, Some, None}
 use Rattle.bus_base.specs.declared.samples.Pair.{Pair}
-use Rattle.bus_base.specs.declared.samples.Sample.TheVariants.{Quiet}
+use Rattle.bus_base.specs.declared.samples.Sample.TheVariants.{Plus, Minus, Quiet}
 use Rattle.bus_base.specs.declared.samples.Sample.{Sample}
 use Rattle.bus_capture.specs.Readings.{place_after, ticks_in, text_limit, sample_of}
 use Rattle.bus_capture.specs.declared.reader.Place.TheVariants.{Between}
@@ -42,6 +42,23 @@ is_stop byte = byte == 46
 abbrev pub are_stops : List ℕ → Bool
 are_stops [] = true
 are_stops (byte ∷ bytes) = is_stop byte && are_stops bytes
+
+abbrev pub is_sample : ℕ → Bool
+is_sample byte = (byte == 43) || (byte == 45) || (byte == 46)
+
+abbrev pub are_samples : List ℕ → Bool
+are_samples [] = true
+are_samples (byte ∷ bytes) = is_sample byte && are_samples bytes
+
+-- the sample that a byte writes, if it writes one
+abbrev pub level : ℕ → Sample
+level byte = if byte == 43 then Plus else if byte == 45 then Minus else Quiet
+
+-- the ticks that bytes write, if all are samples
+abbrev pub pairs_in : List ℕ → List Pair
+pairs_in [] = []
+pairs_in (a ∷ []) = []
+pairs_in (a ∷ b ∷ rest) = record { a = level a; b = level b } ∷ pairs_in rest
 
 -- the front is four quiet ticks
 abbrev pub four_quiet : List ℕ → Bool

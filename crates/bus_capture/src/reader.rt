@@ -16,7 +16,7 @@ ghost use Rattle.bus_capture.specs.Readings.{
   ticks_in,
 };
 ghost use Rattle.bus_capture.specs.Reader.{ReaderStands, after_byte};
-ghost use Rattle.bus_capture.specs.Quiet.{quiet_pairs, ReadsQuiet, IsStep, IsFront, step_in, are_stops, four_quiet, tick_front};
+ghost use Rattle.bus_capture.specs.Quiet.{quiet_pairs, ReadsQuiet, IsStep, IsFront, step_in, are_stops, is_sample, are_samples, level, pairs_in, four_quiet, tick_front};
 ghost use Rattle.bus_capture.specs.Readings.{text_limit};
 ghost use Rattle.bus_capture.specs.declared.reader.Place.TheVariants.{Between};
 ghost use Rattle.std.specs.Prelude.{IsTrue, true};
@@ -29,6 +29,9 @@ const HEADER: [u8; 15] = *b"1553 capture 1\n";
 
 // The most bytes that a capture text has: 2^33.
 const LIMIT: u64 = 8_589_934_592;
+
+// The samples that the bytes '+', ',' and '-' write.
+const LEVELS: [Option<Sample>; 3] = [Some(Sample::Plus), None, Some(Sample::Minus)];
 
 /// Where a text stands after a byte: within the header or between ticks, after a tick's sample of A, or refused.
 #[derive(Clone, Copy, Debug, PartialEq, Eq)]
@@ -247,8 +250,79 @@ fn quiet_step(piece: &[u8]) -> QuietRun
     }
 }
 
-// The ticks at the front of a piece that begins between two ticks, left in the front of `ticks`.
+// The ticks at the front of a piece that begins between two ticks, left in the front of `ticks`: those of a whole line at once, or else those
+// up to the end of the line.
 fn front_ticks(piece: &[u8], ticks: &mut [Pair]) -> FrontRun
+    ensures { IsFront piece.now ticks.new result }
+{
+    if ticks.len() >= 64 && begins_line(piece) {
+        copy_line(&piece[..128], ticks);
+        return FrontRun {
+            bytes: 128,
+            ticks: 64,
+        };
+    }
+    rest_of_line(piece, ticks)
+}
+
+// Whether a piece begins with 64 ticks and no line feed between them.
+fn begins_line(piece: &[u8]) -> bool
+    ensures { IsTrue result → (128 ≤ length piece.now) × (are_samples (take 128 piece.now) ≡ true) }
+{
+    if piece.len() < 128 {
+        return false;
+    }
+    only_samples(&piece[..128])
+}
+
+// Whether all bytes are samples. It goes over all of them, many at once.
+fn only_samples(bytes: &[u8]) -> bool
+    ensures { result ≡ are_samples bytes.now }
+{
+    let mut only = true;
+    for byte in bytes {
+        only = only & is_sample(*byte);
+    }
+    only
+}
+
+#[inline(always)]
+fn is_sample(byte: u8) -> bool
+    ensures { result ≡ is_sample byte }
+{
+    (byte == b'+') | (byte == b'-') | (byte == b'.')
+}
+
+// Leaves the ticks that the bytes of a line write in the front of `ticks`, many at once.
+fn copy_line(bytes: &[u8], ticks: &mut [Pair])
+    requires line { length bytes.now ≡ 128 }
+    requires room { 64 ≤ length ticks.old }
+    ensures { take 64 ticks.new ≡ pairs_in bytes.now }
+{
+    for place in 0..64usize {
+        ticks[place] = Pair {
+            a: level(bytes[2 * place]),
+            b: level(bytes[2 * place + 1]),
+        };
+    }
+}
+
+// The sample that a byte writes, if it writes one.
+#[inline(always)]
+fn level(byte: u8) -> Sample
+    ensures { result ≡ level byte }
+{
+    if byte == b'+' {
+        Sample::Plus
+    } else if byte == b'-' {
+        Sample::Minus
+    } else {
+        Sample::Quiet
+    }
+}
+
+// The ticks up to the end of a line, and its line feed.
+fn rest_of_line(piece: &[u8], ticks: &mut [Pair]) -> FrontRun
     ensures { IsFront piece.now ticks.new result }
 {
     let mut bytes = 0;
@@ -260,7 +334,12 @@ fn front_ticks(piece: &[u8], ticks: &mut [Pair]) -> FrontRun
                 count += 1;
                 bytes += 2;
             }
-            None if piece[bytes] == b'\n' => bytes += 1,
+            None if piece[bytes] == b'\n' => {
+                return FrontRun {
+                    bytes: bytes + 1,
+                    ticks: count,
+                };
+            }
             None => break 'bytes,
         }
     }
@@ -284,14 +363,14 @@ fn front_tick(piece: &[u8]) -> Option<Pair>
     }
 }
 
+// A channel is quiet for long. The levels of its words are looked up, since a branch on them would be guessed wrong as often as not.
 #[inline(always)]
 fn sample(byte: u8) -> Option<Sample>
     ensures { result ≡ sample_of byte }
 {
     match byte {
-        b'+' => Some(Sample::Plus),
-        b'-' => Some(Sample::Minus),
         b'.' => Some(Sample::Quiet),
+        b'+'..=b'-' => LEVELS[usize::from(byte - b'+')],
         _ => None,
     }
 }
