@@ -11,6 +11,8 @@ use Rattle.bus_base.specs.declared.samples.Pair.{Pair}
 use Rattle.bus_capture.specs.Quiet.{quiet_pairs}
 use Rattle.bus_line.specs.Past.{quiet, quiet_ticks}
 use Rattle.bus_line.specs.Channels.{on_channel, both_quiet, quiet_both}
+use Rattle.bus_line.specs.Cutting.{CutterStands}
+use Rattle.bus_line.specs.declared.cutter.Cutter.{Cutter}
 use Rattle.bus_line.specs.declared.cutter.TheConstants.{LAG}
 use Rattle.bus_line.proofs.CutLaws.{stands-quiet, quiet-alone-rests}
 use Rattle.bus_monitor.specs.Listers.{WordListerStands, quiet_next}
@@ -90,6 +92,19 @@ next-by true q n long quiet_is = elim quiet_is [
 pub quiet-next : (q : ℕ) (shown : Pair) (past : List Pair) → (q ≤ quiet_both past) ⊎ (quiet_both past ≡ length past) →
     (quiet_next q shown ≤ quiet_both (shown ∷ past)) ⊎ (quiet_both (shown ∷ past) ≡ length (shown ∷ past))
 quiet-next q shown past quiet_is = next-by (both_quiet shown) q (quiet_both past) (length past) quiet_is
+
+-- cutters that heard a tick, with the tick counted
+pub lister-hears : (lister : WordLister) (a b : Cutter) (shown : Pair) (past : List Pair) → WordListerStands lister past →
+    CutterStands LAG a (shown.a ∷ on_channel A past) → CutterStands LAG b (shown.b ∷ on_channel B past) →
+    WordListerStands record { a = a; b = b; ticks = lister.ticks + 1; quiet = quiet_next lister.quiet shown } (shown ∷ past)
+lister-hears lister a b shown past s heard-a heard-b =
+    let ticks : lister.ticks ≡ length past = s.ticks in
+    record {
+      a = heard-a;
+      b = heard-b;
+      ticks = omega (arith, ticks);
+      quiet_is = quiet-next lister.quiet shown past s.quiet_is;
+    }
 
 -- quiet ticks at once
 pub lister-skips : (lister : WordLister) (n : ℕ) (past : List Pair) → LAG < lister.quiet → WordListerStands lister past →

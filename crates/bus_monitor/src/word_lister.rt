@@ -3,8 +3,6 @@ ghost use Rattle.std.specs.Prelude.{◌≡◌, ◌<◌, ◌+◌, ◌^◌, ℕ, t
 ghost use Rattle.bus_capture.specs.Quiet.{quiet_pairs};
 ghost use Rattle.bus_base.specs.declared.samples.Channel.TheVariants as channels;
 ghost use Rattle.bus_base.specs.declared.samples.Pair.{Pair};
-ghost use Rattle.bus_line.specs.Channels.{on_channel};
-ghost use Rattle.bus_line.specs.Cutting.{cut_now};
 ghost use Rattle.bus_line.specs.declared.cutter.TheConstants.{LAG};
 ghost use Rattle.bus_monitor.specs.Progress.{heard_now};
 ghost use Rattle.bus_monitor.specs.Listers.{WordListerStands, heard_in, quiet_next};
@@ -16,8 +14,8 @@ use bus_line::{Cut, Cutter, LAG};
 /// Lists the valid words of both channels. It keeps the samples of the two slots that run, and takes no memory.
 #[derive(Drop)]
 pub struct WordLister {
-    a: Cutter,
-    b: Cutter,
+    pub(crate) a: Cutter,
+    pub(crate) b: Cutter,
     ticks: u64,
     // the ticks in a row up to now in which both channels were quiet, up to `LAG` + 1
     quiet: u8,
@@ -52,23 +50,20 @@ impl WordLister {
         ensures stands { (past : List Pair) → WordListerStands self.old past → WordListerStands self.new (heard ∷ past) }
     {
         let tick = self.ticks;
-        let (a, b) = self.cut(heard);
+        let a = self.a.hear(heard.a);
+        let b = self.b.hear(heard.b);
+        self.count(heard);
         [word_in(a, Channel::A, tick), word_in(b, Channel::B, tick)]
     }
 
-    /// Hears what both channels show in one tick. What became known of A and of B.
+    /// Counts a tick that both cutters heard.
     #[inline(always)]
-    pub(crate) fn cut(&mut self, heard: Pair) -> (Cut, Cut)
-        requires { (past : List Pair) × WordListerStands self.old past × (length past < 2 ^ 60) }
-        ensures cuts { (past : List Pair) → WordListerStands self.old past →
-            (result.0 ≡ cut_now LAG (on_channel channels.A (heard ∷ past))) × (result.1 ≡ cut_now LAG (on_channel channels.B (heard ∷ past))) }
-        ensures stands { (past : List Pair) → WordListerStands self.old past → WordListerStands self.new (heard ∷ past) }
+    pub(crate) fn count(&mut self, heard: Pair)
+        requires { self.old.ticks < 2 ^ 60 }
+        ensures { self.new ≡ record self.old { ticks = self.old.ticks + 1; quiet = quiet_next self.old.quiet heard } }
     {
-        let a = self.a.hear(heard.a);
-        let b = self.b.hear(heard.b);
         self.ticks += 1;
         self.quiet = quiet_after(self.quiet, heard);
-        (a, b)
     }
 
     /// Whether no burst runs.

@@ -46,9 +46,11 @@ impl Lister for WordLister {
     #[inline(always)]
     fn list(&mut self, shown: Pair, text: &mut Line) {
         let tick = self.ticks();
-        let (a, b) = self.cut(shown);
+        let a = self.a.hear(shown.a);
         add_cut(a, Channel::A, tick, text);
+        let b = self.b.hear(shown.b);
         add_cut(b, Channel::B, tick, text);
+        self.count(shown);
     }
 
     fn finish(&self, text: &mut Line) {
