@@ -20,7 +20,7 @@ use Rattle.bus_formats.specs.declared.form.Outcome.TheVariants.{Clear}
 use Rattle.bus_formats.specs.declared.form.Reading.TheVariants.{Good}
 use Rattle.bus_model.specs.Attempts.{Begun, Ended, kept_words}
 use Rattle.bus_model.specs.Course.{Course, close, at_first}
-use Rattle.bus_model.specs.Control.{hearing_after}
+use Rattle.bus_model.specs.Control.{taking_from, hearing_after}
 use Rattle.bus_model.specs.Terminal.{took_now}
 use Rattle.bus_model.specs.Starts.{Entry}
 use Rattle.bus_model.specs.World.{Trace}
@@ -44,7 +44,7 @@ begun = message_begun (course_at (block_world 8)) first_entry 8
 on-a : begun.state.channel ≡ A
 on-a = ap (λ (b : Begun). b.state.channel) begun-is
 
-abbrev status : List Word
+abbrev pub status : List Word
 status = command_word clear_status ∷ []
 
 nothing-left : (past : List Pair) (burst : _) → LeavesNothing 3 block_plan [] [] [] past 0 1 begun.state.channel burst
@@ -165,11 +165,17 @@ ended-end =
     ∙ ap (λ slots. (close (at_first sending_station true) block_begun
     record { outcome = Clear; first = Some clear_status; second = None; words = kept_words block_message slots } 175).ended) status-read
 
-none-left : (course_at (block_world 176)).left ≡ []
+pub none-left : (course_at (block_world 176)).left ≡ []
 none-left =
     ap (λ (c : Course). c.left) course-end
     ∙ ap (λ (c : Course). drop 1 c.left) course-due
     ∙ ap (λ (entries : List Entry). drop 1 entries) left-then
+
+pub idle-end : (course_at (block_world 176)).runs ≡ None
+idle-end = ap (λ (c : Course). c.runs) course-end
+
+pub opening-end : (t : ℕ) → taking_from t (course_at (block_world 176)).opening ≡ None
+opening-end t = ap (λ (c : Course). taking_from t c.opening) course-end
 
 -- ---- and then
 
@@ -181,3 +187,6 @@ pub settled-after : (n : ℕ) → Settled 3 block_plan [] [] [] (block_trace (17
     × (block_world (176 + n) ≡ quiet_pairs n ++ block_world 176)
 settled-after n =
     let p = pause 3 block_plan [] [] [] 176 0 sending_station n settled-end (none-starts n) (none-takes 176 (176 + n)) in (p.1, p.0)
+
+pub same-after : (n : ℕ) → course_at (block_world (176 + n)) ≡ course_at (block_world 176)
+same-after n = (pause 3 block_plan [] [] [] 176 0 sending_station n settled-end (none-starts n) (none-takes 176 (176 + n))).2

@@ -26,3 +26,4 @@ pub mod Midway
 pub mod Silenced
 pub mod Unheard
 pub mod HowItEnds
+pub mod BlockOver

@@ -7,6 +7,7 @@ ghost use Rattle.bus_line.specs.Past.{quiet_ticks};
 ghost use Rattle.bus_formats.specs.Forms.{command_word, command_words};
 ghost use Rattle.bus_model.specs.Control.{hearing_after, course_after};
 ghost use Rattle.bus_model.specs.Terminal.{took_now};
+ghost use Rattle.bus_model.specs.World.{run_is_over};
 ghost use Rattle.bus_law_line.specs.Shown.{struck_spelling};
 ghost use Rattle.bus_law_stations.specs.Silence.{quiet_pairs};
 ghost use Rattle.bus_law_messages.specs.Settled.{Settled};
@@ -14,7 +15,7 @@ ghost use Rattle.bus_law_messages.specs.FirstPath.{terminal_at, block, block_mes
 
 /// A controller sends a block of two words to a terminal, at a lag of 3 ticks. On channel A the command is shown in the ticks 8 to 127 and the
 /// status in 132 to 171, and all else is quiet; the terminal takes the block in tick 131, and the message ends Clear in tick 175. From then on the
-/// world is settled, and quiet.
+/// world is settled, and quiet; and with the 80th quiet tick, after 252 ticks in all, the run is over.
 pub fn a_block_is_sent_taken_and_cleared()
     ensures shown { (on_channel A (block_world 176) ≡ quiet_ticks 4 ++ (struck_spelling [] (command_word clear_status ∷ []) 40
         ++ (quiet_ticks 4 ++ (struck_spelling [] (command_words block_message) 120 ++ quiet_ticks 8))))
@@ -24,4 +25,5 @@ pub fn a_block_is_sent_taken_and_cleared()
     ensures cleared { (course_after 3 sending_station true [] [] (block_world 176)).ended ≡ block_attempt ∷ [] }
     ensures settled { (n : ℕ) → Settled 3 block_plan [] [] [] (block_trace (176 + n)) 0 sending_station
         × (block_world (176 + n) ≡ quiet_pairs n ++ block_world 176) }
+    ensures over { (run_is_over 3 block_plan [] [] [] 251 ≡ false) × (run_is_over 3 block_plan [] [] [] 252 ≡ true) }
 {}
