@@ -1,5 +1,5 @@
 -- The smallest plan with a message: the tick in which its run is over.
-use Rattle.std.proofs.Common.{◌≡◌, ◌≢◌, ℕ, zero, suc, ◌+◌, Bool, true, false, List, [], ◌∷◌, ◌++◌, length, refl, sym, ap, ◌∙◌, arith}
+use Rattle.std.proofs.Common.{◌≡◌, ◌≢◌, ℕ, zero, suc, ◌+◌, Bool, true, false, List, [], ◌∷◌, ◌++◌, length, refl, ap, ◌∙◌, arith}
 use Rattle.std.specs.Prelude.{◌&&◌, ◌||◌, not, nat_le, if◌then◌else◌, None, get_or, drop, is_none}
 use Rattle.std.specs.List.{list_all}
 use Rattle.bus_base.specs.Samples.{is_quiet}
@@ -10,14 +10,14 @@ use Rattle.bus_base.specs.declared.samples.Sample.TheVariants.{Plus, Minus, Quie
 use Rattle.bus_line.specs.Past.{quiet_ticks}
 use Rattle.bus_line.specs.Channels.{on_channel, quiet_both}
 use Rattle.bus_formats.specs.Forms.{command_words}
-use Rattle.bus_model.specs.Starts.{Entry, has_items}
+use Rattle.bus_model.specs.Starts.{has_items}
 use Rattle.bus_model.specs.Course.{Course}
 use Rattle.bus_model.specs.Control.{taking_from, course_after}
 use Rattle.bus_model.specs.World.{is_done, run_is_over}
 use Rattle.bus_law_line.specs.Shown.{struck_of, struck_spelling}
 use Rattle.bus_law_line.proofs.WordSlots.{heard-unstruck}
-use Rattle.bus_law_stations.specs.Silence.{quiet_pair, quiet_pairs}
-use Rattle.bus_law_messages.specs.FirstPath.{block_message, sending_station, receiving_station, block_plan, block_world}
+use Rattle.bus_law_stations.specs.Silence.{quiet_pairs}
+use Rattle.bus_law_messages.specs.FirstPath.{block_message, receiving_station, block_plan, block_world}
 use Rattle.bus_law_messages.proofs.BlockStarts.{course_at}
 use Rattle.bus_law_messages.proofs.BlockRuns.{status, shown-a, shown-b, settled-after, same-after, idle-end, none-left, opening-end}
 

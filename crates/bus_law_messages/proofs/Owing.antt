@@ -1,7 +1,7 @@
 -- After a command that one terminal is to answer the world is silent, until that answer is due.
-use Rattle.std.proofs.Common.{◌≡◌, ◌≢◌, inl, inr, ℕ, suc, ◌+◌, ◌*◌, ◌<◌, ◌≤◌, true, false, List, ◌++◌, length, Some, None, sym, ap, ◌∙◌, subst, arith, length-append}
+use Rattle.std.proofs.Common.{◌≡◌, ◌≢◌, inl, inr, ℕ, suc, ◌+◌, ◌<◌, ◌≤◌, true, false, List, ◌++◌, length, Some, None, sym, ap, ◌∙◌, subst, arith}
 use Rattle.std.proofs.lemmas.Bool.{cases_eq, true≢false}
-use Rattle.std.proofs.lemmas.Option.{same_Some, none-some}
+use Rattle.std.proofs.lemmas.Option.{none-some}
 use Rattle.std.specs.Prelude.{slice_get, not}
 use Rattle.bus_base.specs.Samples.{other_of, same_channel}
 use Rattle.bus_base.specs.declared.samples.Channel.{Channel}
@@ -13,7 +13,6 @@ use Rattle.bus_base.specs.declared.samples.Sample.{Sample}
 use Rattle.bus_words.specs.declared.word.Word.{Word}
 use Rattle.bus_line.specs.Past.{Burst, quiet_ticks, runs, end_of, rest_of}
 use Rattle.bus_line.specs.Channels.{on_channel}
-use Rattle.bus_line.proofs.ChannelLaws.{on-append}
 use Rattle.bus_formats.specs.Forms.{answers_of, command_words}
 use Rattle.bus_formats.specs.Plans.{TerminalData, StationData, PlanData}
 use Rattle.bus_formats.specs.Times.{no_response}
@@ -34,7 +33,6 @@ use Rattle.bus_law_line.specs.Senders.{IsSpent, LeftAlone}
 use Rattle.bus_law_line.proofs.Sent.{left-spent}
 use Rattle.bus_law_stations.specs.Silence.{quiet_pairs, quiet_moments, AwaitsFirst, NothingStarts, StationRests}
 use Rattle.bus_law_stations.specs.Legs.{BeginsAnswer, obeyed_in, after_command}
-use Rattle.bus_law_stations.specs.Messages.{with_running}
 use Rattle.bus_law_stations.specs.Turns.{moments_of}
 use Rattle.bus_law_stations.proofs.LegTicks.{heard-append, heeded-later}
 use Rattle.bus_law_stations.proofs.Ready.{three-first}
@@ -47,8 +45,9 @@ use Rattle.bus_law_messages.specs.Answers.{IsWaiting, IsAnswering, AnswerDue, Le
 use Rattle.bus_law_messages.proofs.Listening.{moments-shown}
 use Rattle.bus_law_messages.proofs.Sending.{place-silent, place-drives}
 use Rattle.bus_law_messages.proofs.Heard.{hearing-long}
-use Rattle.bus_law_messages.proofs.Unanswered.{first-silent, rests-both, serving-again}
+use Rattle.bus_law_messages.proofs.Unanswered.{serving-again}
 use Rattle.bus_law_messages.proofs.Awaiting.{awaits-quiet}
+use Rattle.bus_law_messages.proofs.Midway.{Waits, waits-on, mid-long as end-long, rests-over, mid-rests as both-rest, mid-spent, mid-undriven, mid-waits}
 use Rattle.bus_law_messages.proofs.Pausing.{on-quiet, same-course, holder-silent, serving-still, serving-quiet, paused, undriven-still}
 
 module _ (k : ℕ) (plan : PlanData) (loads : List TimedLoad) (outside : List OutsideTake) (absent : List ℕ) (before : Trace) (place : ℕ)
@@ -83,52 +82,31 @@ module _ (k : ℕ) (plan : PlanData) (loads : List TimedLoad) (outside : List Ou
   mid = record { shown = ticks ++ before.shown; driven = silent ++ (sent ++ before.driven) }
 
   mid-long : length mid.shown ≡ e + suc k
-  mid-long =
-      let both : length (ticks ++ before.shown) ≡ length ticks + length before.shown = length-append ticks before.shown in
-      omega (arith, both, over.ends.many, long)
+  mid-long = end-long k plan loads outside absent before place holder begun hits ticks sent silent long settled over
 
-  rests-over : (d : Channel) (past : List Sample) → runs k past ≡ false → runs k (on_channel d ticks ++ past) ≡ false
-  rests-over = rests-both k (40 * length (command_words begun.entry.item.kind) + suc k) c _ ticks over.ends.shown over.ends.quiet
+  over-rests : (d : Channel) (past : List Sample) → runs k past ≡ false → runs k (on_channel d ticks ++ past) ≡ false
+  over-rests = rests-over k plan loads outside absent before place holder begun hits ticks sent silent long settled over
 
   -- ---- the station in control
 
   abbrev course : Course
   course = course_after k holder (starts plan holder) loads outside mid.shown
 
-  mid-course : course ≡ with_running (course_after k holder (starts plan holder) loads outside before.shown) begun
-  mid-course = (over.controls.waits shape expects).0
+  waits : Waits k begun course mid.shown e
+  waits = mid-waits k plan loads outside absent before place holder begun hits ticks sent silent long settled over shape expects
 
-  mid-awaits : AwaitsFirst k begun (on_channel c mid.shown) e
-  mid-awaits = (over.controls.waits shape expects).1
-
-  mid-holds : course.holds ≡ true
-  mid-holds = ap (λ (d : Course). d.holds) mid-course ∙ settled.controls.holds
-
-  mid-runs : course.runs ≡ Some begun
-  mid-runs = ap (λ (d : Course). d.runs) mid-course
-
-  mid-before : (tick : ℕ) → length mid.shown ≤ tick → yielded_in tick course.ended ≡ false
-  mid-before tick late = ap (λ (d : Course). yielded_in tick d.ended) mid-course ∙ settled.controls.before tick (omega (arith, late, mid-long, long))
-
-  waits-on : (m : ℕ) → m ≤ n → NothingStarts k course mid.shown m
-  waits-on m few = record {
-    waits = λ other is. (
-      e,
-      inl (subst (λ b. AwaitsFirst k b (on_channel b.state.channel mid.shown) e) (same_Some begun other (sym mid-runs ∙ is)) mid-awaits),
-      omega (arith, mid-long, few, prompt),
-    );
-    starts = λ idle holds entry later left. absurd (none-some begun (sym idle ∙ mid-runs));
-  }
+  still-waits : (m : ℕ) → m ≤ n → NothingStarts k course mid.shown m
+  still-waits m few = waits-on k begun course mid.shown e m waits (omega (arith, mid-long, few, prompt))
 
   waiting : IsWaiting k begun (course_after k holder (starts plan holder) loads outside (quiet_pairs n ++ mid.shown)) (quiet_pairs n ++ mid.shown) e
   waiting =
-      let same = same-course k holder (starts plan holder) loads outside mid.shown mid-holds mid-before n (waits-on n (omega arith)) in
+      let same = same-course k holder (starts plan holder) loads outside mid.shown waits.holds waits.before n (still-waits n (omega arith)) in
       let count : length (quiet_pairs n ++ mid.shown) ≡ n + length mid.shown = pairs-long n mid.shown in
       record {
-        holds = ap (λ (d : Course). d.holds) same ∙ mid-holds;
-        before = λ tick late. ap (λ (d : Course). yielded_in tick d.ended) same ∙ mid-before tick (omega (arith, late, count));
-        answered = record { runs = ap (λ (d : Course). d.runs) same ∙ mid-runs; prompt = omega (arith, count, mid-long, prompt); kept = kept };
-        awaits = subst (λ xs. AwaitsFirst k begun xs e) (sym (on-quiet c n mid.shown)) (awaits-quiet k begun n (on_channel c mid.shown) e mid-awaits);
+        holds = ap (λ (d : Course). d.holds) same ∙ waits.holds;
+        before = λ tick late. ap (λ (d : Course). yielded_in tick d.ended) same ∙ waits.before tick (omega (arith, late, count));
+        answered = record { runs = ap (λ (d : Course). d.runs) same ∙ waits.runs; prompt = omega (arith, count, mid-long, prompt); kept = kept };
+        awaits = subst (λ xs. AwaitsFirst k begun xs e) (sym (on-quiet c n mid.shown)) (awaits-quiet k begun n (on_channel c mid.shown) e waits.awaits);
       }
 
   -- ---- the one that is to answer
@@ -169,7 +147,7 @@ module _ (k : ℕ) (plan : PlanData) (loads : List TimedLoad) (outside : List Ou
       ∙ ap (λ xs. xs ++ heard_on d first.ticks) (moments-shown d (course_after k answering (starts plan answering) loads outside before.shown) ticks)
 
   mid-rests : (d : Channel) → runs k (heard_on d hearing.ticks) ≡ false
-  mid-rests d = ap (runs k) (mid-heard d) ∙ rests-over d (heard_on d first.ticks) (own.free.rests d)
+  mid-rests d = ap (runs k) (mid-heard d) ∙ over-rests d (heard_on d first.ticks) (own.free.rests d)
 
   mid-heeds : ignored_from k (heard_on (other_of c) hearing.ticks) (mark_on s.sent (other_of c)) ≡ false
   mid-heeds =
@@ -235,20 +213,20 @@ module _ (k : ℕ) (plan : PlanData) (loads : List TimedLoad) (outside : List Ou
 
   -- ---- the others, and the world
 
-  mid-spent : (d : Channel) (station : ℕ) → IsSpent plan.faults d mid.driven station
-  mid-spent d station = left-spent plan.faults d (sent ++ before.driven) silent (over.ends.left d) station
+  spent : (d : Channel) (station : ℕ) → IsSpent plan.faults d mid.driven station
+  spent = mid-spent k plan loads outside absent before place holder begun hits ticks sent silent long settled over
 
   mid-serving : (other : ℕ) (station : StationData) → slice_get plan.stations other ≡ Some station → other ≢ place → other ≢ answerer →
       is_present absent station ≡ true → IsServing k station (starts plan station) loads outside mid.shown
   mid-serving other station here away aside is =
-      serving-again k loads outside before.shown ticks c burst rests-over station (starts plan station) (settled.others other station here away is)
+      serving-again k loads outside before.shown ticks c burst over-rests station (starts plan station) (settled.others other station here away is)
       (over.others other station here away is) (nothing other station here away aside is)
 
   all-silent : (m : ℕ) → m < n → (station : ℕ) → station_drive station (drives_after k plan loads outside absent (quiet_pairs m ++ mid.shown)) ≡ Silent
   all-silent m few station = elim (cases_eq station place) [
     | inl same ↦ ap (λ i. station_drive i (drives_after k plan loads outside absent (quiet_pairs m ++ mid.shown))) same
         ∙ ap drive_or (place-drives k plan loads outside absent (quiet_pairs m ++ mid.shown) place holder Silent settled.there settled.present
-        (holder-silent k holder (starts plan holder) loads outside mid.shown mid-holds mid-before m (waits-on (suc m) few)))
+        (holder-silent k holder (starts plan holder) loads outside mid.shown waits.holds waits.before m (still-waits (suc m) few)))
     | inr away ↦ elim (cases_eq station answerer) [
       | inl same ↦ ap (λ i. station_drive i (drives_after k plan loads outside absent (quiet_pairs m ++ mid.shown))) same
           ∙ ap drive_or (place-drives k plan loads outside absent (quiet_pairs m ++ mid.shown) answerer answering Silent there present
@@ -264,9 +242,10 @@ module _ (k : ℕ) (plan : PlanData) (loads : List TimedLoad) (outside : List Ou
       answering words
   comes-due pause left = record {
     rests = λ d. ap (runs k) (on-quiet d n mid.shown)
-        ∙ rests-quiet k n (on_channel d mid.shown) (ap (runs k) (on-append d ticks before.shown) ∙ rests-over d (on_channel d before.shown) (settled.rests d));
-    undriven = undriven-still k plan loads outside absent mid n mid-spent all-silent pause left
-        (first-silent plan.faults (sent ++ before.driven) silent over.ends.left (omega (arith, over.ends.after)));
+        ∙ rests-quiet k n (on_channel d mid.shown)
+        (both-rest k plan loads outside absent before place holder begun hits ticks sent silent long settled over d);
+    undriven = undriven-still k plan loads outside absent mid n spent all-silent pause left
+        (mid-undriven k plan loads outside absent before place holder begun hits ticks sent silent long settled over);
     spent = λ d station. left-spent plan.faults d mid.driven pause (left d) station;
     there = settled.there;
     present = settled.present;
@@ -282,4 +261,4 @@ module _ (k : ℕ) (plan : PlanData) (loads : List TimedLoad) (outside : List Ou
   pub pauses-then : (pause : List (List Drive))
       × ((ticks_on k plan loads outside absent mid n ≡ record { shown = quiet_pairs n ++ mid.shown; driven = pause ++ mid.driven })
       × ((d : Channel) → LeftAlone plan.faults d mid.driven pause))
-  pauses-then = paused k plan loads outside absent mid n mid-spent all-silent n (omega arith)
+  pauses-then = paused k plan loads outside absent mid n spent all-silent n (omega arith)
