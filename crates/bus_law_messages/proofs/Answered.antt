@@ -1,209 +1,206 @@
--- A message whose answer is due, which ends it and keeps control: the world shows that answer, the message ends, and the world is settled again.
-use Rattle.std.proofs.Common.{◌≡◌, ◌≢◌, inl, inr, ℕ, suc, ◌+◌, ◌*◌, ◌%◌, ◌<◌, true, false, List, [], ◌∷◌, ◌++◌, length, Some, sym, ap, ◌∙◌, subst, arith, length-append}
-use Rattle.std.proofs.lemmas.Bool.{cases_eq}
-use Rattle.std.proofs.lemmas.Option.{same_Some}
-use Rattle.std.specs.Prelude.{slice_get, ◌==◌, not}
-use Rattle.bus_base.specs.declared.samples.Channel.{Channel}
+-- The two ways in which the only answer of a message ends it, with control kept: it is good, or it is read as another ending.
+use Rattle.std.proofs.Common.{◌≡◌, ℕ, suc, ◌+◌, ◌*◌, ◌<◌, Bool, true, false, List, ◌++◌, length, Option, Some, None, refl, sym, ap, ◌∙◌}
+use Rattle.std.proofs.lemmas.Bool.{true≢false}
+use Rattle.std.specs.Prelude.{◌&&◌, ◌||◌, ◌==◌, not, if◌then◌else◌}
 use Rattle.bus_base.specs.declared.samples.Drive.{Drive}
-use Rattle.bus_base.specs.declared.samples.Drive.TheVariants.{Silent}
 use Rattle.bus_base.specs.declared.samples.Pair.{Pair}
 use Rattle.bus_base.specs.declared.samples.Part.TheVariants.{First}
 use Rattle.bus_base.specs.declared.samples.Sample.{Sample}
+use Rattle.bus_words.specs.Fields.{flags_in}
 use Rattle.bus_words.specs.declared.word.Word.{Word}
-use Rattle.bus_line.specs.Past.{Burst, quiet_ticks, runs, rest_of, ended_now}
-use Rattle.bus_line.specs.Channels.{on_channel}
-use Rattle.bus_line.proofs.ChannelLaws.{length-on, on-append}
-use Rattle.bus_formats.specs.Plans.{StationData, PlanData}
-use Rattle.bus_formats.specs.Readings.{read_answer}
+use Rattle.bus_line.specs.Past.{Burst}
+use Rattle.bus_formats.specs.Codes.{transmit_status_word, transmit_last_command}
+use Rattle.bus_formats.specs.Forms.{answers_of}
+use Rattle.bus_formats.specs.Plans.{ItemData, StationData, PlanData}
+use Rattle.bus_formats.specs.Readings.{read_answer, read_by, read_offer, read_status, read_mode, read_refusal, read_full, read_data, read_shape, shape_in, status_alone, status_full}
 use Rattle.bus_formats.specs.declared.fault.Hit.{Hit}
+use Rattle.bus_formats.specs.declared.form.Outcome.{Outcome}
+use Rattle.bus_formats.specs.declared.form.Outcome.TheVariants.{Clear, Sent, Declined, Passed, Illegal, Busy, NoResponse, BadReply, Abandoned, Yielded}
+use Rattle.bus_formats.specs.declared.form.Reading.{Reading}
+use Rattle.bus_formats.specs.declared.form.Reading.TheVariants.{Good, Ends}
+use Rattle.bus_formats.specs.declared.form.Shape.{Shape}
+use Rattle.bus_formats.specs.declared.plan.Kind.{Kind}
+use Rattle.bus_formats.specs.declared.plan.Kind.TheVariants.{Receive, Transmit, Relay, Mode}
 use Rattle.bus_model.specs.Memory.{TimedLoad}
-use Rattle.bus_model.specs.Sending.{drive_sample}
-use Rattle.bus_model.specs.Starts.{starts}
 use Rattle.bus_model.specs.Strikes.{added_by}
-use Rattle.bus_model.specs.Transmissions.{drive_or, station_drive}
-use Rattle.bus_model.specs.Attempts.{Begun, Ended}
-use Rattle.bus_model.specs.Controller.{first_read}
-use Rattle.bus_model.specs.Course.{Course, gives, close}
-use Rattle.bus_model.specs.Control.{OutsideTake, yielded_in, course_after}
-use Rattle.bus_model.specs.World.{Trace, trace, is_present, drives_after}
+use Rattle.bus_model.specs.Attempts.{Begun, without_words, is_offer}
+use Rattle.bus_model.specs.Controller.{first_read, good_ending, read_ending, ended_so, is_bad}
+use Rattle.bus_model.specs.Course.{gives}
+use Rattle.bus_model.specs.Control.{OutsideTake}
+use Rattle.bus_model.specs.World.{Trace, trace}
 use Rattle.bus_law_line.specs.Shown.{slots_shown}
-use Rattle.bus_law_line.specs.Senders.{Sender}
-use Rattle.bus_law_line.proofs.Sent.{left-spent}
-use Rattle.bus_law_messages.specs.Settled.{IsServing, Settled, NoneTakes}
-use Rattle.bus_law_messages.specs.Commands.{LeavesWhole, WordsEnd}
-use Rattle.bus_law_messages.specs.Ends.{burst_sent, HeardCommand}
-use Rattle.bus_law_messages.specs.Answers.{AnswerDue, answer_sender, LeavesNothing}
+use Rattle.bus_law_messages.specs.Settled.{Settled, NoneTakes}
+use Rattle.bus_law_messages.specs.Commands.{LeavesWhole}
+use Rattle.bus_law_messages.specs.Ends.{burst_sent}
+use Rattle.bus_law_messages.specs.Answers.{AnswerDue, clear_with, LeavesNothing, AnswerOver}
 use Rattle.bus_law_messages.specs.AnswerRead.{AnswerRead}
-use Rattle.bus_law_messages.proofs.Listening.{serving-silent}
-use Rattle.bus_law_messages.proofs.Running.{RunsAlone, words-over}
-use Rattle.bus_law_messages.proofs.Sending.{place-silent, place-drives, none-takes-from, shown-long}
-use Rattle.bus_law_messages.proofs.Heard.{burst-of, heard-command}
-use Rattle.bus_law_messages.proofs.Unanswered.{first-silent, rests-both, serving-again, trace-later}
-use Rattle.bus_law_messages.proofs.Answering.{answer-drives, serving-after}
-use Rattle.bus_law_messages.proofs.Waiting.{not-yielded, waiting-silent, read-course}
+use Rattle.bus_law_messages.proofs.AnswerEnds.{read-at}
+use Rattle.bus_law_messages.proofs.Closing.{and-not}
 
-module _ (k : ℕ) (plan : PlanData) (loads : List TimedLoad) (outside : List OutsideTake) (absent : List ℕ) (before : Trace) (place t : ℕ)
-    (holder : StationData) (begun : Begun) (e answerer : ℕ) (answering : StationData) (words : List Word) (hits : List Hit)
-    (long : length before.shown ≡ t) (small : k < 40)
-    (due : AnswerDue k plan loads outside absent before place holder begun e answerer answering words)
-    (whole : LeavesWhole plan.faults First before.driven hits words) (some : 0 < length words) (added : added_by hits ≡ 0)
-    (stays : NoneTakes k plan loads outside place t (t + (40 * length words + suc k))) where
-  abbrev c : Channel
-  c = begun.state.channel
+-- ---- a good answer
 
-  abbrev sender : Sender
-  sender = answer_sender answerer begun words
-
-  abbrev limit : ℕ
-  limit = 40 * length words + suc k
-
-  abbrev burst : Burst
-  burst = burst_sent t hits words
-
-  abbrev Ends : List Pair → List (List Drive) → List (List Drive) → Type 0
-  Ends ticks sent silent = WordsEnd k plan loads outside absent before sender hits limit (suc k) ticks sent silent
-
-  here : NoneTakes k plan loads outside place (length before.shown) (length before.shown + limit)
-  here = none-takes-from k plan loads outside place t (length before.shown) limit long stays
-
-  -- ---- what the stations drive
-
-  own-drives : (ticks : List Pair) → RunsAlone k c ticks → length ticks < limit →
-      slice_get (drives_after k plan loads outside absent (ticks ++ before.shown)) answerer ≡ Some (drive_sample c First words (length ticks))
-  own-drives ticks alone early =
-      place-drives k plan loads outside absent (ticks ++ before.shown) answerer answering (drive_sample c First words (length ticks)) due.there_too
-      due.present_too
-      (answer-drives k answering (starts plan answering) loads outside before.shown c words due.answers ticks alone
-      (λ tick low high. here answerer answering due.there_too due.apart tick low (omega (arith, high, early))))
-
-  waits-silent : (ticks : List Pair) → RunsAlone k c ticks → station_drive place (drives_after k plan loads outside absent (ticks ++ before.shown)) ≡ Silent
-  waits-silent ticks alone =
-      ap drive_or (place-drives k plan loads outside absent (ticks ++ before.shown) place holder Silent due.there due.present
-      (waiting-silent k holder (starts plan holder) loads outside before.shown begun e due.waits (due.rests c) ticks alone))
-
-  others-silent : (ticks : List Pair) → RunsAlone k c ticks → length ticks < limit → (other : ℕ) → other ≢ answerer →
-      station_drive other (drives_after k plan loads outside absent (ticks ++ before.shown)) ≡ Silent
-  others-silent ticks alone early other apart = elim (cases_eq other place) [
-    | inl same ↦ ap (λ i. station_drive i (drives_after k plan loads outside absent (ticks ++ before.shown))) same ∙ waits-silent ticks alone
-    | inr away ↦ place-silent k plan loads outside absent (ticks ++ before.shown) other (λ station there present.
-        serving-silent k station (starts plan station) loads outside before.shown c small (due.others other station there away apart present) ticks
-        alone.0 alone.1 (λ tick low high. here other station there away tick low (omega (arith, high, early))))
-  ]
-
-  -- ---- what its end leaves
-
-  channel-ends : (x : Pair) (ticks : List Pair) (sent silent : List (List Drive)) → Ends (x ∷ ticks) sent silent →
-      ended_now k (on_channel c (x ∷ (ticks ++ before.shown))) ≡ Some burst
-  channel-ends x ticks sent silent so =
-      ap (ended_now k) (on-append c (x ∷ ticks) before.shown)
-      ∙ ap (λ xs. ended_now k (xs ++ on_channel c before.shown)) so.shown
-      ∙ burst-of k hits words (on_channel c before.shown) (due.rests c) whole.heard some
-      ∙ ap (λ n. Some (burst_sent n hits words)) (length-on c before.shown ∙ long)
-
-  heard-it : (x : Pair) (ticks : List Pair) (sent silent : List (List Drive)) → Ends (x ∷ ticks) sent silent → RunsAlone k c ticks →
-      (other : ℕ) (station : StationData) → slice_get plan.stations other ≡ Some station → other ≢ place → other ≢ answerer →
-      is_present absent station ≡ true → HeardCommand k station (starts plan station) loads outside before.shown (x ∷ ticks) c burst
-  heard-it x ticks sent silent so alone other station there away apart present =
-      let at : suc (length ticks) ≡ 40 * length words + suc k = so.many in
-      subst (λ m. HeardCommand k station (starts plan station) loads outside before.shown (x ∷ ticks) c (burst_sent m hits words)) long
-      (heard-command k station (starts plan station) loads outside before.shown c small (due.others other station there away apart present) x ticks
-      hits words some whole.heard (omega (arith, at)) alone.0 so.shown (so.quiet ∙ ap quiet_ticks (sym so.many))
-      (λ tick low high. here other station there away tick low (omega (arith, high, at))))
-
-  module _ (ending : Ended)
-      (reads : (shown : List Pair) (heard : List Sample) → first_read k begun.entry.item shown heard (burst_sent t hits words)
-      (read_answer begun.entry.item.kind First (slots_shown hits 0 words) (rest_of (burst_sent t hits words))) ≡ Some ending)
-      (kept : gives ending.outcome ≡ false)
-      (nothing : LeavesNothing k plan loads outside absent before.shown place answerer c burst) where
-    is-ended : (x : Pair) (ticks : List Pair) (sent silent : List (List Drive)) → Ends (x ∷ ticks) sent silent → RunsAlone k c ticks →
-        course_after k holder (starts plan holder) loads outside ((x ∷ ticks) ++ before.shown)
-        ≡ close (course_after k holder (starts plan holder) loads outside before.shown) begun ending (t + 40 * length words + k)
-    is-ended x ticks sent silent so alone =
-        let at : suc (length ticks) ≡ 40 * length words + suc k = so.many in
-        let count : length (ticks ++ before.shown) ≡ length ticks + length before.shown = length-append ticks before.shown in
-        let tick : length (ticks ++ before.shown) ≡ t + 40 * length words + k = omega (arith, at, count, long) in
-        read-course k holder (starts plan holder) loads outside before.shown begun e due.waits (due.rests c) x ticks burst ending alone
-        (channel-ends x ticks sent silent so) reads kept
-        ∙ ap (close (course_after k holder (starts plan holder) loads outside before.shown) begun ending) tick
-
-    rests-ticks : (ticks : List Pair) (sent silent : List (List Drive)) → Ends ticks sent silent → (d : Channel) (past : List Sample) →
-        runs k past ≡ false → runs k (on_channel d ticks ++ past) ≡ false
-    rests-ticks ticks sent silent so = rests-both k limit c _ ticks so.shown so.quiet
-
-    -- the one that answered is free
-    answerer-again : (x : Pair) (ticks : List Pair) (sent silent : List (List Drive)) → Ends (x ∷ ticks) sent silent → RunsAlone k c ticks →
-        IsServing k answering (starts plan answering) loads outside ((x ∷ ticks) ++ before.shown)
-    answerer-again x [] sent silent so alone = let at : 1 ≡ 40 * length words + suc k = so.many in absurd (omega (arith, at, some))
-    answerer-again x (y ∷ ticks) sent silent so alone =
-        let at : suc (suc (length ticks)) ≡ 40 * length words + suc k = so.many in
-        serving-after k answering (starts plan answering) loads outside before.shown c words due.answers x y ticks hits whole.heard some alone
-        (λ tick low high. here answerer answering due.there_too due.apart tick low (omega (arith, high, at)))
-        so.shown (so.quiet ∙ ap quiet_ticks (sym so.many)) (rests-ticks (x ∷ y ∷ ticks) sent silent so)
-
-    serves-again : (x : Pair) (ticks : List Pair) (sent silent : List (List Drive)) → Ends (x ∷ ticks) sent silent → RunsAlone k c ticks →
-        (other : ℕ) (station : StationData) → slice_get plan.stations other ≡ Some station → other ≢ place → is_present absent station ≡ true →
-        IsServing k station (starts plan station) loads outside ((x ∷ ticks) ++ before.shown)
-    serves-again x ticks sent silent so alone other station there away present = elim (cases_eq other answerer) [
-      | inl same ↦ (let is : station ≡ answering = same_Some station answering (sym there ∙ ap (slice_get plan.stations) same ∙ due.there_too) in
-          subst (λ u. IsServing k u (starts plan u) loads outside ((x ∷ ticks) ++ before.shown)) (sym is) (answerer-again x ticks sent silent so alone))
-      | inr apart ↦ serving-again k loads outside before.shown (x ∷ ticks) c burst (rests-ticks (x ∷ ticks) sent silent so) station (starts plan station)
-          (due.others other station there away apart present) (heard-it x ticks sent silent so alone other station there away apart present)
-          (nothing other station there away apart present)
-    ]
-
-    settled-ended : (x : Pair) (ticks : List Pair) (sent silent : List (List Drive)) → Ends (x ∷ ticks) sent silent → RunsAlone k c ticks →
-        Settled k plan loads outside absent record { shown = (x ∷ ticks) ++ before.shown; driven = silent ++ (sent ++ before.driven) } place holder
-    settled-ended x ticks sent silent so alone =
-        let same = is-ended x ticks sent silent so alone in
-        record {
-          rests = λ d. ap (runs k) (on-append d (x ∷ ticks) before.shown)
-              ∙ rests-ticks (x ∷ ticks) sent silent so d (on_channel d before.shown) (due.rests d);
-          undriven = first-silent plan.faults (sent ++ before.driven) silent so.left (omega (arith, so.after));
-          spent = λ d station. left-spent plan.faults d (sent ++ before.driven) silent (so.left d) station;
-          there = due.there;
-          present = due.present;
-          controls = record {
-            holds = ap (λ (d : Course). d.holds) same ∙ ap not kept;
-            idle = ap (λ (d : Course). d.runs) same;
-            before = λ tick late. ap (λ (d : Course). yielded_in tick d.ended) same ∙ not-yielded (t + 40 * length words + k == tick) ending.outcome kept;
-          };
-          others = serves-again x ticks sent silent so alone;
-        }
-
-    pub answer-over : (ticks : List Pair) × (sent : List (List Drive)) × (silent : List (List Drive))
-        × AnswerRead k plan loads outside absent before place holder begun answerer words hits ending t ticks sent silent
-        × Settled k plan loads outside absent record { shown = ticks ++ before.shown; driven = silent ++ (sent ++ before.driven) } place holder
-    answer-over =
-        let o = words-over k plan loads outside absent before sender hits limit due.undriven due.spent whole own-drives others-silent
-        some added (omega arith) in (
-          o.0 ∷ o.1,
-          o.2,
-          o.3,
-          record { ends = o.4; controls = is-ended o.0 o.1 o.2 o.3 o.4 o.5; others = heard-it o.0 o.1 o.2 o.3 o.4 o.5 },
-          settled-ended o.0 o.1 o.2 o.3 o.4 o.5,
-        )
-
--- the ending, by the tick's number
-pub read-at : (k : ℕ) (plan : PlanData) (loads : List TimedLoad) (outside : List OutsideTake) (absent : List ℕ) (t place : ℕ) (holder : StationData)
-    (begun : Begun) (e answerer : ℕ) (answering : StationData) (words : List Word) (hits : List Hit) (ending : Ended) → k < 40 →
+pub answer-at : (k : ℕ) (plan : PlanData) (loads : List TimedLoad) (outside : List OutsideTake) (absent : List ℕ) (t place : ℕ) (holder : StationData)
+    (begun : Begun) (e answerer : ℕ) (answering : StationData) (words : List Word) (hits : List Hit) (status : ℕ) → k < 40 →
     let before : Trace = trace k plan loads outside absent t in
     let after : Trace = trace k plan loads outside absent (t + (40 * length words + suc k)) in
     AnswerDue k plan loads outside absent before place holder begun e answerer answering words →
     NoneTakes k plan loads outside place t (t + (40 * length words + suc k)) → LeavesWhole plan.faults First before.driven hits words →
-    0 < length words → added_by hits ≡ 0 →
-    ((shown : List Pair) (heard : List Sample) → first_read k begun.entry.item shown heard (burst_sent t hits words)
-    (read_answer begun.entry.item.kind First (slots_shown hits 0 words) 0) ≡ Some ending) →
-    gives ending.outcome ≡ false →
+    0 < length words → added_by hits ≡ 0 → read_answer begun.entry.item.kind First (slots_shown hits 0 words) 0 ≡ Good status →
+    (answers_of begun.entry.item.kind).second ≡ None →
     LeavesNothing k plan loads outside absent before.shown place answerer begun.state.channel (burst_sent t hits words) →
     (ticks : List Pair) × (sent : List (List Drive)) × (silent : List (List Drive))
-    × AnswerRead k plan loads outside absent before place holder begun answerer words hits ending t ticks sent silent
+    × AnswerOver k plan loads outside absent before place holder begun answerer words hits status t ticks sent silent
     × (after ≡ record { shown = ticks ++ before.shown; driven = silent ++ (sent ++ before.driven) })
     × Settled k plan loads outside absent after place holder
-read-at k plan loads outside absent t place holder begun e answerer answering words hits ending small due stays whole some added reads kept nothing =
-    let no_rest : rest_of (burst_sent t hits words) ≡ 0 = let none : 40 * length words % 40 ≡ 0 = omega arith in none in
-    let o = answer-over k plan loads outside absent (trace k plan loads outside absent t) place t holder begun e answerer answering words hits
-    (shown-long k plan loads outside absent t) small due whole some added stays ending
-    (λ shown heard. ap (λ rest. first_read k begun.entry.item shown heard (burst_sent t hits words)
-    (read_answer begun.entry.item.kind First (slots_shown hits 0 words) rest)) no_rest ∙ reads shown heard) kept nothing in
-    let later = sym (trace-later k plan loads outside absent t (40 * length words + suc k)) ∙ o.3.ends.world in
-    (o.0, o.1, o.2, o.3, later, subst (λ tr. Settled k plan loads outside absent tr place holder) (sym later) o.4)
+answer-at k plan loads outside absent t place holder begun e answerer answering words hits status small due stays whole some added good only nothing =
+    let burst = burst_sent t hits words in
+    let o = read-at k plan loads outside absent t place holder begun e answerer answering words hits (clear_with begun burst status) small due stays whole
+    some added
+    (λ shown heard. ap (first_read k begun.entry.item shown heard burst) good ∙ ap (good_ending k begun.entry.item shown heard status burst) only) refl
+    nothing in
+    (o.0, o.1, o.2, record { ends = o.3.ends; controls = o.3.controls; others = o.3.others }, o.4, o.5)
+
+-- ---- which readings keep control
+
+-- a reading that ends the message keeps control
+abbrev keeps : Reading → Bool
+keeps (Good status) = true
+keeps (Ends outcome status) = not (gives outcome)
+
+if-keeps : (b : Bool) (r q : Reading) → keeps r ≡ true → keeps q ≡ true → keeps (if b then r else q) ≡ true
+if-keeps true r q first second = first
+if-keeps false r q first second = second
+
+refusal-keeps : (alone : Option ℕ) → keeps (read_refusal First alone) ≡ true
+refusal-keeps None = refl
+refusal-keeps (Some status) = if-keeps (flags_in status).message_error (Ends (Illegal First) (Some status)) (Ends (BadReply First) None) refl refl
+
+status-keeps : (alone : Option ℕ) → keeps (read_status First alone) ≡ true
+status-keeps None = refl
+status-keeps (Some status) = refl
+
+mode-keeps : (reports : Bool) (full alone : Option ℕ) → keeps (read_mode First reports full alone) ≡ true
+mode-keeps reports None alone = refusal-keeps alone
+mode-keeps reports (Some status) alone =
+    if-keeps (not (flags_in status).message_error || reports) (Good status) (read_refusal First alone) refl (refusal-keeps alone)
+
+full-keeps : (full : Option ℕ) → keeps (read_full First full) ≡ true
+full-keeps None = refl
+full-keeps (Some status) =
+    if-keeps ((flags_in status).message_error || (flags_in status).busy) (Ends (BadReply First) None) (Good status) refl refl
+
+data-keeps : (alone full : Option ℕ) → keeps (read_data First alone full) ≡ true
+data-keeps None full = full-keeps full
+data-keeps (Some status) full =
+    if-keeps (flags_in status).message_error (Ends (Illegal First) (Some status))
+    (if (flags_in status).busy then Ends (Busy First) (Some status) else read_full First full) refl
+    (if-keeps (flags_in status).busy (Ends (Busy First) (Some status)) (read_full First full) refl (full-keeps full))
+
+by-keeps : (kind : Kind) (alone full : Option ℕ) → is_offer kind ≡ false → keeps (read_by First kind alone full) ≡ true
+by-keeps (Receive to sub words) alone full plain = data-keeps alone full
+by-keeps (Transmit from sub count) alone full plain = data-keeps alone full
+by-keeps (Relay from from_sub to to_sub count) alone full plain = data-keeps alone full
+by-keeps (Mode to mode_sub transmit code word) alone full plain =
+    let others : Reading = if transmit && (code == transmit_status_word) then read_status First alone
+    else read_mode First (transmit && (code == transmit_last_command)) full alone in
+    ap (λ (b : Bool). keeps (if b then read_offer First alone else others)) plain
+    ∙ if-keeps (transmit && (code == transmit_status_word)) (read_status First alone)
+    (read_mode First (transmit && (code == transmit_last_command)) full alone) (status-keeps alone)
+    (mode-keeps (transmit && (code == transmit_last_command)) full alone)
+
+shape-keeps : (kind : Kind) (shape : Option Shape) (slots : List (Option Word)) (rest : ℕ) → is_offer kind ≡ false →
+    keeps (read_shape First kind shape slots rest) ≡ true
+shape-keeps kind None slots rest plain = refl
+shape-keeps kind (Some shape) slots rest plain = by-keeps kind (status_alone shape slots rest) (status_full shape slots rest) plain
+
+kept-of : (outcome : Outcome) → not (gives outcome) ≡ true → gives outcome ≡ false
+kept-of Clear is = refl
+kept-of Sent is = refl
+kept-of Declined is = refl
+kept-of Passed is = absurd (true≢false (sym is))
+kept-of (Illegal part) is = refl
+kept-of (Busy part) is = refl
+kept-of (NoResponse part) is = refl
+kept-of (BadReply part) is = refl
+kept-of Abandoned is = refl
+kept-of Yielded is = absurd (true≢false (sym is))
+
+-- an answer to a message that is no offer
+reading-keeps : (kind : Kind) (slots : List (Option Word)) (rest : ℕ) (outcome : Outcome) (status : Option ℕ) → is_offer kind ≡ false →
+    read_answer kind First slots rest ≡ Ends outcome status → gives outcome ≡ false
+reading-keeps kind slots rest outcome status plain is =
+    kept-of outcome (sym (ap keeps is) ∙ shape-keeps kind (shape_in First (answers_of kind)) slots rest plain)
+
+-- ---- an answer that ends its message otherwise
+
+-- at once, unless it is a bad answer to an offer
+at-once : (k : ℕ) (item : ItemData) (shown : List Pair) (heard : List Sample) (burst : Burst) (offer : Bool) (outcome : Outcome) (status : Option ℕ) →
+    (offer && is_bad (Ends outcome status)) ≡ false → read_ending k item shown heard burst offer outcome status ≡ ended_so outcome status None
+at-once k item shown heard burst false outcome status is = refl
+at-once k item shown heard burst true Clear status is = refl
+at-once k item shown heard burst true Sent status is = refl
+at-once k item shown heard burst true Declined status is = refl
+at-once k item shown heard burst true Passed status is = refl
+at-once k item shown heard burst true (Illegal part) status is = refl
+at-once k item shown heard burst true (Busy part) status is = refl
+at-once k item shown heard burst true (NoResponse part) status is = refl
+at-once k item shown heard burst true (BadReply part) status is = absurd (true≢false is)
+at-once k item shown heard burst true Abandoned status is = refl
+at-once k item shown heard burst true Yielded status is = refl
+
+pub ends-at : (k : ℕ) (plan : PlanData) (loads : List TimedLoad) (outside : List OutsideTake) (absent : List ℕ) (t place : ℕ) (holder : StationData)
+    (begun : Begun) (e answerer : ℕ) (answering : StationData) (words : List Word) (hits : List Hit) (outcome : Outcome) (status : Option ℕ) → k < 40 →
+    let before : Trace = trace k plan loads outside absent t in
+    let after : Trace = trace k plan loads outside absent (t + (40 * length words + suc k)) in
+    AnswerDue k plan loads outside absent before place holder begun e answerer answering words →
+    NoneTakes k plan loads outside place t (t + (40 * length words + suc k)) → LeavesWhole plan.faults First before.driven hits words →
+    0 < length words → added_by hits ≡ 0 → read_answer begun.entry.item.kind First (slots_shown hits 0 words) 0 ≡ Ends outcome status →
+    (is_offer begun.entry.item.kind && is_bad (Ends outcome status)) ≡ false → gives outcome ≡ false →
+    LeavesNothing k plan loads outside absent before.shown place answerer begun.state.channel (burst_sent t hits words) →
+    (ticks : List Pair) × (sent : List (List Drive)) × (silent : List (List Drive))
+    × AnswerRead k plan loads outside absent before place holder begun answerer words hits (without_words outcome status None) t ticks sent silent
+    × (after ≡ record { shown = ticks ++ before.shown; driven = silent ++ (sent ++ before.driven) })
+    × Settled k plan loads outside absent after place holder
+ends-at k plan loads outside absent t place holder begun e answerer answering words hits outcome status small due stays whole some added reads once kept
+    nothing =
+    read-at k plan loads outside absent t place holder begun e answerer answering words hits (without_words outcome status None) small due stays whole
+    some added
+    (λ shown heard. ap (first_read k begun.entry.item shown heard (burst_sent t hits words)) reads
+    ∙ at-once k begun.entry.item shown heard (burst_sent t hits words) (is_offer begun.entry.item.kind) outcome status once) kept nothing
+
+pub plain-ends-at : (k : ℕ) (plan : PlanData) (loads : List TimedLoad) (outside : List OutsideTake) (absent : List ℕ) (t place : ℕ) (holder : StationData)
+    (begun : Begun) (e answerer : ℕ) (answering : StationData) (words : List Word) (hits : List Hit) (outcome : Outcome) (status : Option ℕ) → k < 40 →
+    let before : Trace = trace k plan loads outside absent t in
+    let after : Trace = trace k plan loads outside absent (t + (40 * length words + suc k)) in
+    AnswerDue k plan loads outside absent before place holder begun e answerer answering words →
+    NoneTakes k plan loads outside place t (t + (40 * length words + suc k)) → LeavesWhole plan.faults First before.driven hits words →
+    0 < length words → added_by hits ≡ 0 → read_answer begun.entry.item.kind First (slots_shown hits 0 words) 0 ≡ Ends outcome status →
+    is_offer begun.entry.item.kind ≡ false →
+    LeavesNothing k plan loads outside absent before.shown place answerer begun.state.channel (burst_sent t hits words) →
+    (ticks : List Pair) × (sent : List (List Drive)) × (silent : List (List Drive))
+    × AnswerRead k plan loads outside absent before place holder begun answerer words hits (without_words outcome status None) t ticks sent silent
+    × (after ≡ record { shown = ticks ++ before.shown; driven = silent ++ (sent ++ before.driven) })
+    × Settled k plan loads outside absent after place holder
+plain-ends-at k plan loads outside absent t place holder begun e answerer answering words hits outcome status small due stays whole some added reads plain
+    nothing =
+    ends-at k plan loads outside absent t place holder begun e answerer answering words hits outcome status small due stays whole some added reads
+    (ap (λ b. b && is_bad (Ends outcome status)) plain)
+    (reading-keeps begun.entry.item.kind (slots_shown hits 0 words) 0 outcome status plain reads) nothing
+
+pub offer-ends-at : (k : ℕ) (plan : PlanData) (loads : List TimedLoad) (outside : List OutsideTake) (absent : List ℕ) (t place : ℕ) (holder : StationData)
+    (begun : Begun) (e answerer : ℕ) (answering : StationData) (words : List Word) (hits : List Hit) (outcome : Outcome) (status : Option ℕ) → k < 40 →
+    let before : Trace = trace k plan loads outside absent t in
+    let after : Trace = trace k plan loads outside absent (t + (40 * length words + suc k)) in
+    AnswerDue k plan loads outside absent before place holder begun e answerer answering words →
+    NoneTakes k plan loads outside place t (t + (40 * length words + suc k)) → LeavesWhole plan.faults First before.driven hits words →
+    0 < length words → added_by hits ≡ 0 → read_answer begun.entry.item.kind First (slots_shown hits 0 words) 0 ≡ Ends outcome status →
+    gives outcome ≡ false → is_bad (Ends outcome status) ≡ false →
+    LeavesNothing k plan loads outside absent before.shown place answerer begun.state.channel (burst_sent t hits words) →
+    (ticks : List Pair) × (sent : List (List Drive)) × (silent : List (List Drive))
+    × AnswerRead k plan loads outside absent before place holder begun answerer words hits (without_words outcome status None) t ticks sent silent
+    × (after ≡ record { shown = ticks ++ before.shown; driven = silent ++ (sent ++ before.driven) })
+    × Settled k plan loads outside absent after place holder
+offer-ends-at k plan loads outside absent t place holder begun e answerer answering words hits outcome status small due stays whole some added reads kept
+    well nothing =
+    ends-at k plan loads outside absent t place holder begun e answerer answering words hits outcome status small due stays whole some added reads
+    (ap (λ b. is_offer begun.entry.item.kind && b) well ∙ and-not (is_offer begun.entry.item.kind)) kept nothing

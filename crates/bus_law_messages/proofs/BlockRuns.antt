@@ -34,7 +34,7 @@ use Rattle.bus_law_messages.specs.FirstPath.{terminal_at, block, block_message, 
 use Rattle.bus_law_messages.proofs.Spoken.{left-whole, answer-read}
 use Rattle.bus_law_messages.proofs.StaysSettled.{pause}
 use Rattle.bus_law_messages.proofs.ComesDue.{due-at}
-use Rattle.bus_law_messages.proofs.HowItEnds.{answer-at}
+use Rattle.bus_law_messages.proofs.Answered.{answer-at}
 use Rattle.bus_law_messages.proofs.BlockStarts.{only-two, none-takes, first_entry, course_at, shown-then, settled-then, course-then, left-then, begins-then, block_begun, begun-is, block_order, order-then, obeyed-then}
 
 -- the message that begins

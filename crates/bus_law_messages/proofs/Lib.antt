@@ -25,5 +25,5 @@ pub mod BlockRuns
 pub mod Midway
 pub mod Silenced
 pub mod Unheard
-pub mod HowItEnds
+pub mod AnswerEnds
 pub mod BlockOver

@@ -1,4 +1,4 @@
-use Rattle.bus_law_messages.proofs.HowItEnds.{plain-ends-at, offer-ends-at}
+use Rattle.bus_law_messages.proofs.Answered.{plain-ends-at, offer-ends-at}
 use Rattle.bus_law_messages.proofs.endings.an_answer_ends_its_message.Goals as goal
 
 pub returns : goal.returns
