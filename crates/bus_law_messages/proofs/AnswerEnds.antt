@@ -34,10 +34,11 @@ use Rattle.bus_law_messages.specs.Commands.{LeavesWhole, WordsEnd}
 use Rattle.bus_law_messages.specs.Ends.{burst_sent, HeardCommand}
 use Rattle.bus_law_messages.specs.Answers.{AnswerDue, answer_sender, LeavesNothing}
 use Rattle.bus_law_messages.specs.AnswerRead.{AnswerRead}
-use Rattle.bus_law_messages.proofs.Listening.{serving-silent}
+use Rattle.bus_law_messages.proofs.Listening.{serving-listens, serving-silent}
 use Rattle.bus_law_messages.proofs.Running.{RunsAlone, words-over}
 use Rattle.bus_law_messages.proofs.Sending.{place-silent, place-drives, none-takes-from, shown-long}
-use Rattle.bus_law_messages.proofs.Heard.{burst-of, heard-command}
+use Rattle.bus_law_messages.proofs.Heard.{burst-of}
+use Rattle.bus_law_messages.proofs.HeardBursts.{heard-command}
 use Rattle.bus_law_messages.proofs.Unanswered.{first-silent, rests-both, serving-again, trace-later}
 use Rattle.bus_law_messages.proofs.Answering.{answer-drives, serving-after}
 use Rattle.bus_law_messages.proofs.Waiting.{not-yielded, waiting-silent, read-course}
@@ -86,7 +87,8 @@ module _ (k : ℕ) (plan : PlanData) (loads : List TimedLoad) (outside : List Ou
   others-silent ticks alone early other apart = elim (cases_eq other place) [
     | inl same ↦ ap (λ i. station_drive i (drives_after k plan loads outside absent (ticks ++ before.shown))) same ∙ waits-silent ticks alone
     | inr away ↦ place-silent k plan loads outside absent (ticks ++ before.shown) other (λ station there present.
-        serving-silent k station (starts plan station) loads outside before.shown c small (due.others other station there away apart present) ticks
+        serving-silent k station (starts plan station) loads outside before.shown c small
+        (serving-listens k station (starts plan station) loads outside before.shown c (due.others other station there away apart present)) ticks
         alone.0 alone.1 (λ tick low high. here other station there away tick low (omega (arith, high, early))))
   ]
 

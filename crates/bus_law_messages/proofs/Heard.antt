@@ -1,4 +1,4 @@
--- A serving station, free before, where the end of another station's burst becomes known: its terminal obeys it or passes it over.
+-- A terminal that listens, where the end of another station's burst becomes known: it obeys it, or settles its promise by it, or passes it over.
 use Rattle.std.proofs.Common.{◌≡◌, inl, inr, ℕ, suc, ◌+◌, ◌*◌, ◌<◌, ◌≤◌, Bool, true, false, List, [], ◌∷◌, ◌++◌, length, Option, Some, None, refl, sym, ap, ◌∙◌, subst, arith, length-append}
 use Rattle.std.proofs.lemmas.Bool.Decides.{nat_tests}
 use Rattle.std.proofs.lemmas.List.{append_assoc}
@@ -17,7 +17,7 @@ use Rattle.bus_model.specs.Memory.{Memory, TimedLoad}
 use Rattle.bus_model.specs.Orders.{Duty, owes, promises, Order, Obeyed, last_order, due_after}
 use Rattle.bus_model.specs.Orders as orders
 use Rattle.bus_model.specs.Hearing.{Moment, Hearing, heard_on}
-use Rattle.bus_model.specs.Standing.{Standing, is_owed}
+use Rattle.bus_model.specs.Standing.{Standing, is_owed, is_promise}
 use Rattle.bus_model.specs.Starts.{has_items}
 use Rattle.bus_model.specs.Terminal.{given_up, standing, standing_after, took_now, accepted_by, accepted_on, accepted_now, heard_status}
 use Rattle.bus_model.specs.Course.{Take, Course}
@@ -26,20 +26,20 @@ use Rattle.bus_law_line.specs.Shown.{struck_of, struck_spelling}
 use Rattle.bus_law_line.specs.Senders.{AreHeard}
 use Rattle.bus_law_line.proofs.Rows.{ended-row}
 use Rattle.bus_law_line.proofs.WordSlots.{slots-sent}
-use Rattle.bus_law_stations.specs.Legs.{BeginsAnswer, with_addressed, IsUnheeded, obeyed_in, after_command}
+use Rattle.bus_law_stations.specs.Legs.{BeginsAnswer, with_addressed, IsUnheeded, obeyed_in, settled_in, after_command, after_promise}
 use Rattle.bus_law_stations.specs.Turns.{moments_of, TakesNothing}
-use Rattle.bus_law_stations.proofs.BurstEnds.{obeyed, passed}
-use Rattle.bus_law_stations.proofs.Due.{obeyed-due}
+use Rattle.bus_law_stations.proofs.BurstEnds.{obeyed, settled, passed}
+use Rattle.bus_law_stations.proofs.Due.{obeyed-due, settled-due}
 use Rattle.bus_law_stations.specs.Silence.{quiet_moments}
-use Rattle.bus_base.specs.declared.samples.Part.TheVariants.{First}
+use Rattle.bus_base.specs.declared.samples.Part.TheVariants.{First, Second}
 use Rattle.bus_law_stations.proofs.LegTicks.{heard-append}
 use Rattle.bus_law_stations.proofs.Obeying.{running-marks}
 use Rattle.bus_law_stations.proofs.Resting.{heard-long, rests-quiet}
 use Rattle.bus_law_stations.proofs.Turning.{serving-hears, serving-same}
 use Rattle.bus_law_stations.proofs.Unheeded.{quiet-unheeded}
-use Rattle.bus_law_messages.specs.Settled.{IsFree, IsServing}
+use Rattle.bus_law_messages.specs.Promises.{IsListening}
 use Rattle.bus_law_messages.specs.Ends.{burst_sent, HeardCommand}
-use Rattle.bus_law_messages.proofs.Listening.{moments-shown, moments-many, free-ready, free-hears, quiet-not-ended, this-or-other, serving-nothing, shown-leg, shown-quiet}
+use Rattle.bus_law_messages.proofs.Listening.{moments-shown, moments-many, listening-ready, listening-hears, quiet-not-ended, this-or-other, serving-nothing, shown-leg, shown-quiet}
 
 -- ---- the burst
 
@@ -101,7 +101,7 @@ accepts-late k t loads past x s (owes words true) n first late =
     (status-late (due_after t s.end) n (ended_now k (x ∷ past)) first (late refl))
 
 module _ (k : ℕ) (t : TerminalData) (loads : List TimedLoad) (memory : Memory) (c : Channel) (heard ticks : List Moment) (now : Moment) (burst : Burst)
-    (small : k < 40) (frees : IsFree k t (standing k t loads memory heard) heard) (leg : InLeg k (heard_on c ticks))
+    (small : k < 40) (frees : IsListening k t (standing k t loads memory heard) c heard) (leg : InLeg k (heard_on c ticks))
     (quiet : heard_on (other_of c) (now ∷ ticks) ≡ quiet_ticks (length (now ∷ ticks)))
     (ended : ended_now k (heard_on c (now ∷ (ticks ++ heard))) ≡ Some burst) (began : burst.first ≡ length heard) where
   abbrev s : Standing
@@ -123,10 +123,10 @@ module _ (k : ℕ) (t : TerminalData) (loads : List TimedLoad) (memory : Memory)
 
   pub end-accepts-not : accepted_now k t loads record { memory = memory; ticks = now ∷ (ticks ++ heard) } ≡ None
   end-accepts-not =
-      let m = running-marks k t loads memory c heard ticks small (free-ready k t s c heard frees) (free-hears k t s c heard ticks frees leg before-quiet) in
+      let m = running-marks k t loads memory c heard ticks small (listening-ready k t s c heard frees) (listening-hears k t s c heard ticks frees leg before-quiet) in
       ap (accepted_on k t loads now (ticks ++ heard)) m.1
       ∙ accepts-late k t loads (heard_on s.channel (ticks ++ heard)) (sample_on now.shown s.channel) (with_addressed s c m.0) s.duty (length heard)
-      (first-of s.channel) (free-ready k t s c heard frees).answer
+      (first-of s.channel) (listening-ready k t s c heard frees).answer
 
   pub end-obeyed : (order : Order) → last_order t.address burst.slots ≡ Some order →
       let o : Obeyed = obeyed_in t loads (length (ticks ++ heard)) s c order (rest_of burst) now.may in
@@ -134,15 +134,38 @@ module _ (k : ℕ) (t : TerminalData) (loads : List TimedLoad) (memory : Memory)
       × (standing k t loads memory (now ∷ (ticks ++ heard)) ≡ after_command s c (end_of burst) slot_end o)
       × (took_now k t loads record { memory = memory; ticks = now ∷ (ticks ++ heard) } ≡ o.taken)
   end-obeyed order last =
-      obeyed k t loads memory c heard ticks now burst (free-ready k t s c heard frees) beside ended
-      (free-hears k t s c heard ticks frees leg before-quiet) small order last
+      obeyed k t loads memory c heard ticks now burst (listening-ready k t s c heard frees) beside ended
+      (listening-hears k t s c heard ticks frees leg before-quiet) small order last
 
-  pub end-passed : last_order t.address burst.slots ≡ None →
+  pub end-passed : last_order t.address burst.slots ≡ None → is_promise s.duty ≡ false →
       (standing k t loads memory (now ∷ (ticks ++ heard)) ≡ s)
       × (took_now k t loads record { memory = memory; ticks = now ∷ (ticks ++ heard) } ≡ None)
-  end-passed last =
-      passed k t loads memory c heard ticks now burst (free-ready k t s c heard frees) beside ended
-      (free-hears k t s c heard ticks frees leg before-quiet) small last frees.promise
+  end-passed last none =
+      passed k t loads memory c heard ticks now burst (listening-ready k t s c heard frees) beside ended
+      (listening-hears k t s c heard ticks frees leg before-quiet) small last none
+
+  pub end-settled : (command transmitter : ℕ) → last_order t.address burst.slots ≡ None → s.duty ≡ promises command transmitter →
+      let o : Obeyed = settled_in t loads (length (ticks ++ heard)) s c command transmitter burst in
+      (standing k t loads memory (now ∷ (ticks ++ heard)) ≡ after_promise s (end_of burst) o)
+      × (took_now k t loads record { memory = memory; ticks = now ∷ (ticks ++ heard) } ≡ o.taken)
+  end-settled command transmitter last made =
+      settled k t loads memory c heard ticks now burst (listening-ready k t s c heard frees) beside ended
+      (listening-hears k t s c heard ticks frees leg before-quiet) small command transmitter last made (frees.stands (ap is_promise made))
+
+  beside-rests : runs k (heard_on (other_of c) (now ∷ (ticks ++ heard))) ≡ false
+  beside-rests =
+      ap (runs k) (heard-append (other_of c) (now ∷ ticks) heard ∙ ap (λ xs. xs ++ heard_on (other_of c) heard) quiet)
+      ∙ rests-quiet k (length (now ∷ ticks)) (heard_on (other_of c) heard) (frees.rests (other_of c))
+
+  pub end-settled-due : (command transmitter : ℕ) → last_order t.address burst.slots ≡ None → (mays : List Bool) → s.duty ≡ promises command transmitter →
+      let o : Obeyed = settled_in t loads (length (ticks ++ heard)) s c command transmitter burst in
+      let later : List Moment = quiet_moments mays ++ (now ∷ (ticks ++ heard)) in
+      length later ≡ due_after t (end_of burst) → is_owed o.duty ≡ true →
+      BeginsAnswer k t (standing k t loads memory later) c later × ((standing k t loads memory later).duty ≡ o.duty)
+      × ((standing k t loads memory later).part ≡ Second)
+  end-settled-due command transmitter last mays made long owed =
+      settled-due k t loads memory c heard ticks now burst command transmitter mays small (listening-ready k t s c heard frees)
+      (listening-hears k t s c heard ticks frees leg before-quiet) beside ended last made (frees.stands (ap is_promise made)) owed beside-rests long
 
   -- what the answer that it owes waits for
   pub end-due : (order : Order) → last_order t.address burst.slots ≡ Some order → (mays : List Bool) →
@@ -152,98 +175,6 @@ module _ (k : ℕ) (t : TerminalData) (loads : List TimedLoad) (memory : Memory)
       BeginsAnswer k t (standing k t loads memory later) c later × ((standing k t loads memory later).duty ≡ o.duty)
       × ((standing k t loads memory later).part ≡ First)
   end-due order last mays long owed =
-      obeyed-due k t loads memory c heard ticks now burst order mays small (free-ready k t s c heard frees)
-      (free-hears k t s c heard ticks frees leg before-quiet) beside ended last owed
-      (ap (runs k) (heard-append (other_of c) (now ∷ ticks) heard ∙ ap (λ xs. xs ++ heard_on (other_of c) heard) quiet)
-      ∙ rests-quiet k (length (now ∷ ticks)) (heard_on (other_of c) heard) (frees.rests (other_of c))) long
-
--- ---- a serving station
-
-module _ (k : ℕ) (station : StationData) (starts : Bool) (loads : List TimedLoad) (outside : List OutsideTake) (past : List Pair) (c : Channel)
-    (small : k < 40) (serving : IsServing k station starts loads outside past) (x : Pair) (ticks : List Pair) (hits : List Hit) (words : List Word)
-    (some : 0 < length words) (audible : AreHeard hits words) (many : length ticks ≡ k + 40 * length words)
-    (leg : InLeg k (on_channel c ticks))
-    (shown : on_channel c (x ∷ ticks) ≡ quiet_ticks (suc k) ++ struck_spelling hits words (40 * length words))
-    (quiet : on_channel (other_of c) (x ∷ ticks) ≡ quiet_ticks (length (x ∷ ticks)))
-    (stays : (tick : ℕ) → length past ≤ tick → tick < length past + length (x ∷ ticks) → outside_takes k station starts loads outside tick outside ≡ []) where
-  abbrev t : TerminalData
-  t = station.terminal
-
-  abbrev course : Course
-  course = course_after k station starts loads outside past
-
-  abbrev hearing : Hearing
-  hearing = hearing_after k station starts loads outside past
-
-  abbrev moments : List Moment
-  moments = moments_of course ticks
-
-  abbrev burst : Burst
-  burst = burst_sent (length past) hits words
-
-  end-burst : ended_now k (heard_on c (moment_of x course ∷ (moments ++ hearing.ticks))) ≡ Some burst
-  end-burst =
-      ap (ended_now k) (heard-append c (moments_of course (x ∷ ticks)) hearing.ticks)
-      ∙ ap (λ xs. ended_now k (xs ++ heard_on c hearing.ticks)) (moments-shown c course (x ∷ ticks) ∙ shown)
-      ∙ burst-of k hits words (heard_on c hearing.ticks) (serving.free.rests c) audible some
-      ∙ ap (λ n. Some (burst_sent n hits words)) (heard-long c hearing.ticks ∙ hearing-long k station starts loads outside past)
-
-  end-quiet : heard_on (other_of c) (moment_of x course ∷ moments) ≡ quiet_ticks (length (moment_of x course ∷ moments))
-  end-quiet = shown-quiet k station starts loads outside past c small serving (other_of c) (x ∷ ticks) quiet
-
-  end-leg : InLeg k (heard_on c moments)
-  end-leg = shown-leg k station starts loads outside past c small serving ticks leg
-
-  took-nothing : TakesNothing k station starts loads outside past (x ∷ ticks)
-  took-nothing =
-      let long : length (ticks ++ past) ≡ length ticks + length past = length-append ticks past in (
-        end-accepts-not k t loads hearing.memory c hearing.ticks moments (moment_of x course) burst small serving.free end-leg end-quiet end-burst
-            (sym (hearing-long k station starts loads outside past)),
-        stays (length (ticks ++ past)) (omega (arith, long)) (omega (arith, long)),
-        serving-nothing k station starts loads outside past c small serving ticks leg (ap (λ (xs : List Sample). drop 1 xs) quiet)
-            (λ tick low high. stays tick low (omega (arith, high))),
-      )
-
-  end-hearing : hearing_after k station starts loads outside ((x ∷ ticks) ++ past)
-      ≡ record { memory = hearing.memory; ticks = moment_of x course ∷ (moments ++ hearing.ticks) }
-  end-hearing = ap (λ (so : StationSoFar). so.hearing) (serving-hears k station starts loads outside past (x ∷ ticks) serving.serves took-nothing)
-
-  handled-at : length (moments ++ hearing.ticks) ≡ end_of burst + k
-  handled-at =
-      let both : length (moments ++ hearing.ticks) ≡ length moments + length hearing.ticks = length-append moments hearing.ticks in
-      let here : length moments ≡ length ticks = moments-many course ticks in
-      let before : length hearing.ticks ≡ length past = hearing-long k station starts loads outside past in
-      omega (arith, both, here, before, many)
-
-  pub heard-command : HeardCommand k station starts loads outside past (x ∷ ticks) c burst
-  heard-command = record {
-    hears = end-hearing;
-    course = serving-same k station starts loads outside past (x ∷ ticks) serving.serves took-nothing;
-    obeyed = λ order last.
-        let s = standing_after k t loads hearing in
-        let e = end-obeyed k t loads hearing.memory c hearing.ticks moments (moment_of x course) burst small serving.free end-leg end-quiet end-burst
-        (sym (hearing-long k station starts loads outside past)) order last in (
-          e.0,
-          ap (standing_after k t loads) end-hearing
-              ∙ e.3
-              ∙ ap (λ tick. after_command s c (end_of burst) e.0 (obeyed_in t loads tick s c order (rest_of burst) (has_items course.left))) handled-at,
-          ap (took_now k t loads) end-hearing
-              ∙ e.4
-              ∙ ap (λ tick. (obeyed_in t loads tick s c order (rest_of burst) (has_items course.left)).taken) handled-at,
-        );
-    due = λ order last mays.
-        let s = standing_after k t loads hearing in
-        let o : ℕ → Obeyed = λ tick. obeyed_in t loads tick s c order (rest_of burst) (has_items course.left) in
-        let Begins : Hearing → ℕ → Type 0 = λ h tick. length (quiet_moments mays ++ h.ticks) ≡ due_after t (end_of burst) → is_owed (o tick).duty ≡ true →
-        BeginsAnswer k t (standing k t loads h.memory (quiet_moments mays ++ h.ticks)) c (quiet_moments mays ++ h.ticks)
-        × ((standing k t loads h.memory (quiet_moments mays ++ h.ticks)).duty ≡ (o tick).duty)
-        × ((standing k t loads h.memory (quiet_moments mays ++ h.ticks)).part ≡ First) in
-        subst (λ h. Begins h (end_of burst + k)) (sym end-hearing)
-        (subst (λ tick. Begins record { memory = hearing.memory; ticks = moment_of x course ∷ (moments ++ hearing.ticks) } tick) handled-at
-        (end-due k t loads hearing.memory c hearing.ticks moments (moment_of x course) burst small serving.free end-leg end-quiet end-burst
-        (sym (hearing-long k station starts loads outside past)) order last mays));
-    passed = λ last.
-        let e = end-passed k t loads hearing.memory c hearing.ticks moments (moment_of x course) burst small serving.free end-leg end-quiet end-burst
-        (sym (hearing-long k station starts loads outside past)) last in
-        (ap (standing_after k t loads) end-hearing ∙ e.0, ap (took_now k t loads) end-hearing ∙ e.1);
-  }
+      obeyed-due k t loads memory c heard ticks now burst order mays small (listening-ready k t s c heard frees)
+      (listening-hears k t s c heard ticks frees leg before-quiet) beside ended last owed
+      beside-rests long

@@ -27,3 +27,4 @@ pub mod Silenced
 pub mod Unheard
 pub mod AnswerEnds
 pub mod BlockOver
+pub mod HeardBursts

@@ -1,4 +1,4 @@
--- A serving station, free before, while a burst of another station runs on one channel and the other is quiet: it sends nothing, and no control
+-- A serving station, which listens, while a burst of another station runs on one channel and the other is quiet: it sends nothing, and no control
 -- passes to it.
 use Rattle.std.proofs.Common.{◌≡◌, ◌⊎◌, inl, inr, ℕ, suc, ◌+◌, ◌-◌, ◌<◌, ◌≤◌, Bool, true, false, List, [], ◌∷◌, ◌++◌, length, Option, None, refl, sym, ap, ◌∙◌, arith, length-append}
 use Rattle.std.proofs.lemmas.Bool.{true≢false}
@@ -31,6 +31,7 @@ use Rattle.bus_law_stations.proofs.Obeying.{running-marks}
 use Rattle.bus_law_stations.proofs.Turning.{serving-sends}
 use Rattle.bus_law_stations.proofs.Unheeded.{quiet-unheeded}
 use Rattle.bus_law_messages.specs.Settled.{IsFree, IsServing}
+use Rattle.bus_law_messages.specs.Promises.{IsListening, Listens}
 
 -- ---- what it hears
 
@@ -43,19 +44,37 @@ pub moments-many : (course : Course) (ticks : List Pair) → length (moments_of 
 moments-many course [] = refl
 moments-many course (shown ∷ ticks) = ap suc (moments-many course ticks)
 
--- ---- a free terminal while a burst runs
+-- ---- a terminal that listens while a burst runs
 
-pub free-ready : (k : ℕ) (t : TerminalData) (s : Standing) (c : Channel) (heard : List Moment) → IsFree k t s heard → IsReady k t s c heard
-free-ready k t s c heard eased = record {
+-- a free terminal listens on either channel
+pub free-listens : (k : ℕ) (t : TerminalData) (s : Standing) (c : Channel) (heard : List Moment) → IsFree k t s heard → IsListening k t s c heard
+free-listens k t s c heard frees = record {
+  rests = frees.rests;
+  heeds = frees.heeds;
+  over = frees.over;
+  promise = λ made. absurd (true≢false (sym made ∙ frees.promise));
+  stands = λ made. absurd (true≢false (sym made ∙ frees.promise));
+}
+
+pub serving-listens : (k : ℕ) (station : StationData) (starts : Bool) (loads : List TimedLoad) (outside : List OutsideTake) (past : List Pair) (c : Channel) →
+    IsServing k station starts loads outside past → Listens k station starts loads outside past c
+serving-listens k station starts loads outside past c serving =
+    let hearing = hearing_after k station starts loads outside past in record {
+      serves = serving.serves;
+      listens = free-listens k station.terminal (standing k station.terminal loads hearing.memory hearing.ticks) c hearing.ticks serving.free;
+    }
+
+pub listening-ready : (k : ℕ) (t : TerminalData) (s : Standing) (c : Channel) (heard : List Moment) → IsListening k t s c heard → IsReady k t s c heard
+listening-ready k t s c heard eased = record {
   hears = eased.heeds c;
   answer = λ owed. let late = over-late k (heard_on s.channel heard) (due_after t s.end) (eased.over owed) in
       let long : length (heard_on s.channel heard) ≡ length heard = heard-long s.channel heard in omega (arith, late, long);
-  promise = λ made. absurd (true≢false (sym made ∙ eased.promise));
+  promise = eased.promise;
 }
 
-pub free-hears : (k : ℕ) (t : TerminalData) (s : Standing) (c : Channel) (heard ticks : List Moment) → IsFree k t s heard →
+pub listening-hears : (k : ℕ) (t : TerminalData) (s : Standing) (c : Channel) (heard ticks : List Moment) → IsListening k t s c heard →
     InLeg k (heard_on c ticks) → heard_on (other_of c) ticks ≡ quiet_ticks (length ticks) → HearsBurst k t s c heard ticks
-free-hears k t s c heard ticks eased leg quiet =
+listening-hears k t s c heard ticks eased leg quiet =
     record { rests = eased.rests c; leg = leg; beside = quiet-unheeded k t s (other_of c) heard ticks (eased.rests (other_of c)) quiet }
 
 -- an answer that is over isn't sent, and stays over
@@ -83,12 +102,12 @@ over-later k later past a over = elim (cases-option (end_since k past a)) [
 ]
 
 -- it sends nothing
-pub free-silent : (k : ℕ) (t : TerminalData) (loads : List TimedLoad) (memory : Memory) (c : Channel) (heard ticks : List Moment) → k < 40 →
-    IsFree k t (standing k t loads memory heard) heard → InLeg k (heard_on c ticks) → heard_on (other_of c) ticks ≡ quiet_ticks (length ticks) →
+pub listening-silent : (k : ℕ) (t : TerminalData) (loads : List TimedLoad) (memory : Memory) (c : Channel) (heard ticks : List Moment) → k < 40 →
+    IsListening k t (standing k t loads memory heard) c heard → InLeg k (heard_on c ticks) → heard_on (other_of c) ticks ≡ quiet_ticks (length ticks) →
     drives k t loads record { memory = memory; ticks = ticks ++ heard } ≡ Silent
-free-silent k t loads memory c heard ticks small eased leg quiet =
+listening-silent k t loads memory c heard ticks small eased leg quiet =
     let s = standing k t loads memory heard in
-    let m = running-marks k t loads memory c heard ticks small (free-ready k t s c heard eased) (free-hears k t s c heard ticks eased leg quiet) in
+    let m = running-marks k t loads memory c heard ticks small (listening-ready k t s c heard eased) (listening-hears k t s c heard ticks eased leg quiet) in
     ap (λ (u : Standing). drive_duty k t (heard_on u.channel (ticks ++ heard)) u u.duty) m.1
     ∙ over-silent k t (heard_on s.channel (ticks ++ heard)) (with_addressed s c m.0) s.duty
     (λ owed. ap (λ xs. is_some (end_since k xs (due_after t s.end))) (heard-append s.channel ticks heard)
@@ -133,7 +152,7 @@ this-or-other A B = inr refl
 this-or-other B A = inr refl
 this-or-other B B = inl refl
 
-none-ended : (k : ℕ) (t : TerminalData) (s : Standing) (c d : Channel) (heard ticks : List Moment) (now : Moment) → IsFree k t s heard →
+none-ended : (k : ℕ) (t : TerminalData) (s : Standing) (c d : Channel) (heard ticks : List Moment) (now : Moment) → IsListening k t s c heard →
     InLeg k (heard_on c (now ∷ ticks)) → heard_on (other_of c) (now ∷ ticks) ≡ quiet_ticks (length (now ∷ ticks)) →
     ended_now k (heard_on d (now ∷ (ticks ++ heard))) ≡ None
 none-ended k t s c d heard ticks now eased leg quiet = elim (this-or-other c d) [
@@ -142,14 +161,14 @@ none-ended k t s c d heard ticks now eased leg quiet = elim (this-or-other c d) 
       ∙ quiet-not-ended k (other_of c) heard ticks now (eased.rests (other_of c)) quiet
 ]
 
-free-accepts-not : (k : ℕ) (t : TerminalData) (loads : List TimedLoad) (memory : Memory) (c : Channel) (heard ticks : List Moment) (now : Moment) →
-    k < 40 → IsFree k t (standing k t loads memory heard) heard → InLeg k (heard_on c (now ∷ ticks)) →
+listening-accepts-not : (k : ℕ) (t : TerminalData) (loads : List TimedLoad) (memory : Memory) (c : Channel) (heard ticks : List Moment) (now : Moment) →
+    k < 40 → IsListening k t (standing k t loads memory heard) c heard → InLeg k (heard_on c (now ∷ ticks)) →
     heard_on (other_of c) (now ∷ ticks) ≡ quiet_ticks (length (now ∷ ticks)) →
     accepted_now k t loads record { memory = memory; ticks = now ∷ (ticks ++ heard) } ≡ None
-free-accepts-not k t loads memory c heard ticks now small eased leg quiet =
+listening-accepts-not k t loads memory c heard ticks now small eased leg quiet =
     let s = standing k t loads memory heard in
     let before : heard_on (other_of c) ticks ≡ quiet_ticks (length ticks) = ap (λ (xs : List Sample). drop 1 xs) quiet in
-    let m = running-marks k t loads memory c heard ticks small (free-ready k t s c heard eased) (free-hears k t s c heard ticks eased leg.2 before) in
+    let m = running-marks k t loads memory c heard ticks small (listening-ready k t s c heard eased) (listening-hears k t s c heard ticks eased leg.2 before) in
     ap (accepted_on k t loads now (ticks ++ heard)) m.1
     ∙ accepts-not k t loads (heard_on s.channel (ticks ++ heard)) (sample_on now.shown s.channel) (with_addressed s c m.0) s.duty
     (none-ended k t s c s.channel heard ticks now eased leg quiet)
@@ -157,7 +176,7 @@ free-accepts-not k t loads memory c heard ticks now small eased leg quiet =
 -- ---- a serving station
 
 module _ (k : ℕ) (station : StationData) (starts : Bool) (loads : List TimedLoad) (outside : List OutsideTake) (past : List Pair) (c : Channel)
-    (small : k < 40) (serving : IsServing k station starts loads outside past) where
+    (small : k < 40) (serving : Listens k station starts loads outside past c) where
   abbrev course : Course
   course = course_after k station starts loads outside past
 
@@ -175,8 +194,8 @@ module _ (k : ℕ) (station : StationData) (starts : Bool) (loads : List TimedLo
   serving-nothing (shown ∷ ticks) leg quiet stays =
       let hearing = hearing_after k station starts loads outside past in
       let long : length (ticks ++ past) ≡ length ticks + length past = length-append ticks past in (
-        free-accepts-not k station.terminal loads hearing.memory c hearing.ticks (moments_of course ticks) (moment_of shown course) small
-            serving.free (shown-leg (shown ∷ ticks) leg) (shown-quiet (other_of c) (shown ∷ ticks) quiet),
+        listening-accepts-not k station.terminal loads hearing.memory c hearing.ticks (moments_of course ticks) (moment_of shown course) small
+            serving.listens (shown-leg (shown ∷ ticks) leg) (shown-quiet (other_of c) (shown ∷ ticks) quiet),
         stays (length (ticks ++ past)) (omega (arith, long)) (omega (arith, long)),
         serving-nothing ticks leg.2 (ap (λ (xs : List Sample). drop 1 xs) quiet) (λ tick low high. stays tick low (omega (arith, high))),
       )
@@ -187,5 +206,5 @@ module _ (k : ℕ) (station : StationData) (starts : Bool) (loads : List TimedLo
   serving-silent ticks leg quiet stays =
       let hearing = hearing_after k station starts loads outside past in
       serving-sends k station starts loads outside past ticks serving.serves (serving-nothing ticks leg quiet stays)
-      ∙ free-silent k station.terminal loads hearing.memory c hearing.ticks (moments_of course ticks) small serving.free
+      ∙ listening-silent k station.terminal loads hearing.memory c hearing.ticks (moments_of course ticks) small serving.listens
       (shown-leg ticks leg) (shown-quiet (other_of c) ticks quiet)

@@ -26,7 +26,8 @@ use Rattle.bus_law_messages.specs.Commands.{command_sender, LeavesWhole, WordsEn
 use Rattle.bus_law_messages.specs.Ends.{burst_sent, SentCommand, HeardCommand, CommandOver}
 use Rattle.bus_law_messages.proofs.Sending.{own-drives, others-silent, none-takes-from, shown-long}
 use Rattle.bus_law_messages.proofs.Running.{RunsAlone, words-over}
-use Rattle.bus_law_messages.proofs.Heard.{burst-of, heard-command}
+use Rattle.bus_law_messages.proofs.Heard.{burst-of}
+use Rattle.bus_law_messages.proofs.HeardBursts.{heard-command}
 use Rattle.bus_law_messages.proofs.Closing.{sent-command}
 
 -- a command has words

@@ -20,7 +20,7 @@ use Rattle.bus_law_line.specs.Senders.{Sender}
 use Rattle.bus_law_stations.specs.Messages.{BeginsMessage, message_begun}
 use Rattle.bus_law_messages.specs.Settled.{Settled, NoneTakes}
 use Rattle.bus_law_messages.specs.Commands.{command_sender, LeavesWhole, CommandSent}
-use Rattle.bus_law_messages.proofs.Listening.{serving-silent}
+use Rattle.bus_law_messages.proofs.Listening.{serving-listens, serving-silent}
 use Rattle.bus_law_messages.proofs.Holding.{holder-sends}
 use Rattle.bus_law_messages.proofs.Running.{RunsAlone, words-sent}
 
@@ -82,7 +82,8 @@ module _ (k : ℕ) (plan : PlanData) (loads : List TimedLoad) (outside : List Ou
       station_drive other (drives_after k plan loads outside absent (ticks ++ before.shown)) ≡ Silent
   others-silent ticks runs early other apart =
       place-silent k plan loads outside absent (ticks ++ before.shown) other (λ station there present.
-      serving-silent k station (starts plan station) loads outside before.shown sender.channel small (settled.others other station there apart present) ticks
+      serving-silent k station (starts plan station) loads outside before.shown sender.channel small
+      (serving-listens k station (starts plan station) loads outside before.shown sender.channel (settled.others other station there apart present)) ticks
       runs.0 runs.1 (λ tick low high. stays other station there apart tick low (omega (arith, high, early))))
 
 -- as many ticks were shown as the world has

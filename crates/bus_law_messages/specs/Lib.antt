@@ -5,3 +5,4 @@ pub mod Answers
 pub mod Addressed
 pub mod FirstPath
 pub mod AnswerRead
+pub mod Promises

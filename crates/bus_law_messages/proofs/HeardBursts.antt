@@ -1,0 +1,171 @@
+-- A terminal that listens, where the end of another station's burst becomes known: it obeys it, or settles its promise by it, or passes it over.
+use Rattle.std.proofs.Common.{◌≡◌, inl, inr, ℕ, suc, ◌+◌, ◌*◌, ◌<◌, ◌≤◌, Bool, true, false, List, [], ◌∷◌, ◌++◌, length, Option, Some, None, refl, sym, ap, ◌∙◌, subst, arith, length-append}
+use Rattle.std.proofs.lemmas.Bool.Decides.{nat_tests}
+use Rattle.std.proofs.lemmas.List.{append_assoc}
+use Rattle.std.proofs.lemmas.Option.{none-some, same_Some}
+use Rattle.std.specs.Prelude.{◌&&◌, ◌==◌, nat_le, if◌then◌else◌, drop}
+use Rattle.bus_base.specs.Samples.{sample_on, other_of}
+use Rattle.bus_base.specs.declared.samples.Channel.{Channel}
+use Rattle.bus_base.specs.declared.samples.Pair.{Pair}
+use Rattle.bus_base.specs.declared.samples.Sample.{Sample}
+use Rattle.bus_words.specs.declared.word.Word.{Word}
+use Rattle.bus_line.specs.Past.{Burst, InLeg, quiet_ticks, runs, ended_now, end_of, rest_of}
+use Rattle.bus_line.specs.Channels.{on_channel}
+use Rattle.bus_formats.specs.Plans.{TerminalData, StationData}
+use Rattle.bus_formats.specs.declared.fault.Hit.{Hit}
+use Rattle.bus_model.specs.Memory.{Memory, TimedLoad}
+use Rattle.bus_model.specs.Orders.{Duty, owes, promises, Order, Obeyed, last_order, due_after}
+use Rattle.bus_model.specs.Orders as orders
+use Rattle.bus_model.specs.Hearing.{Moment, Hearing, heard_on}
+use Rattle.bus_model.specs.Standing.{Standing, is_owed}
+use Rattle.bus_model.specs.Starts.{has_items}
+use Rattle.bus_model.specs.Terminal.{given_up, standing, standing_after, took_now, accepted_by, accepted_on, accepted_now, heard_status}
+use Rattle.bus_model.specs.Course.{Take, Course}
+use Rattle.bus_model.specs.Control.{OutsideTake, StationSoFar, unheard_ticks, moment_of, hear_more, takes_in, taken_over, serve, hold, course_with, so_far, course_after, hearing_after, outside_takes}
+use Rattle.bus_law_line.specs.Shown.{struck_of, struck_spelling}
+use Rattle.bus_law_line.specs.Senders.{AreHeard}
+use Rattle.bus_law_line.proofs.Rows.{ended-row}
+use Rattle.bus_law_line.proofs.WordSlots.{slots-sent}
+use Rattle.bus_law_stations.specs.Legs.{BeginsAnswer, with_addressed, IsUnheeded, obeyed_in, settled_in, after_command, after_promise}
+use Rattle.bus_law_stations.specs.Turns.{moments_of, TakesNothing}
+use Rattle.bus_law_stations.proofs.BurstEnds.{obeyed, passed}
+use Rattle.bus_law_stations.proofs.Due.{obeyed-due}
+use Rattle.bus_law_stations.specs.Silence.{quiet_moments}
+use Rattle.bus_base.specs.declared.samples.Part.TheVariants.{First, Second}
+use Rattle.bus_law_stations.proofs.LegTicks.{heard-append}
+use Rattle.bus_law_stations.proofs.Obeying.{running-marks}
+use Rattle.bus_law_stations.proofs.Resting.{heard-long, rests-quiet}
+use Rattle.bus_law_stations.proofs.Turning.{serving-hears, serving-same}
+use Rattle.bus_law_stations.proofs.Unheeded.{quiet-unheeded}
+use Rattle.bus_law_messages.specs.Settled.{IsServing}
+use Rattle.bus_law_messages.specs.Promises.{Listens, HeardBurst}
+use Rattle.bus_law_messages.specs.Ends.{burst_sent, HeardCommand}
+use Rattle.bus_law_messages.proofs.Listening.{moments-shown, moments-many, serving-listens, serving-nothing, shown-leg, shown-quiet}
+use Rattle.bus_law_messages.proofs.Heard.{burst-of, hearing-long, end-accepts-not, end-obeyed, end-settled, end-settled-due, end-passed, end-due}
+
+-- ---- a serving station
+
+module _ (k : ℕ) (station : StationData) (starts : Bool) (loads : List TimedLoad) (outside : List OutsideTake) (past : List Pair) (c : Channel)
+    (small : k < 40) (serving : Listens k station starts loads outside past c) (x : Pair) (ticks : List Pair) (hits : List Hit) (words : List Word)
+    (some : 0 < length words) (audible : AreHeard hits words) (many : length ticks ≡ k + 40 * length words)
+    (leg : InLeg k (on_channel c ticks))
+    (shown : on_channel c (x ∷ ticks) ≡ quiet_ticks (suc k) ++ struck_spelling hits words (40 * length words))
+    (quiet : on_channel (other_of c) (x ∷ ticks) ≡ quiet_ticks (length (x ∷ ticks)))
+    (stays : (tick : ℕ) → length past ≤ tick → tick < length past + length (x ∷ ticks) → outside_takes k station starts loads outside tick outside ≡ []) where
+  abbrev t : TerminalData
+  t = station.terminal
+
+  abbrev course : Course
+  course = course_after k station starts loads outside past
+
+  abbrev hearing : Hearing
+  hearing = hearing_after k station starts loads outside past
+
+  abbrev moments : List Moment
+  moments = moments_of course ticks
+
+  abbrev burst : Burst
+  burst = burst_sent (length past) hits words
+
+  end-burst : ended_now k (heard_on c (moment_of x course ∷ (moments ++ hearing.ticks))) ≡ Some burst
+  end-burst =
+      ap (ended_now k) (heard-append c (moments_of course (x ∷ ticks)) hearing.ticks)
+      ∙ ap (λ xs. ended_now k (xs ++ heard_on c hearing.ticks)) (moments-shown c course (x ∷ ticks) ∙ shown)
+      ∙ burst-of k hits words (heard_on c hearing.ticks) (serving.listens.rests c) audible some
+      ∙ ap (λ n. Some (burst_sent n hits words)) (heard-long c hearing.ticks ∙ hearing-long k station starts loads outside past)
+
+  end-quiet : heard_on (other_of c) (moment_of x course ∷ moments) ≡ quiet_ticks (length (moment_of x course ∷ moments))
+  end-quiet = shown-quiet k station starts loads outside past c small serving (other_of c) (x ∷ ticks) quiet
+
+  end-leg : InLeg k (heard_on c moments)
+  end-leg = shown-leg k station starts loads outside past c small serving ticks leg
+
+  took-nothing : TakesNothing k station starts loads outside past (x ∷ ticks)
+  took-nothing =
+      let long : length (ticks ++ past) ≡ length ticks + length past = length-append ticks past in (
+        end-accepts-not k t loads hearing.memory c hearing.ticks moments (moment_of x course) burst small serving.listens end-leg end-quiet end-burst
+            (sym (hearing-long k station starts loads outside past)),
+        stays (length (ticks ++ past)) (omega (arith, long)) (omega (arith, long)),
+        serving-nothing k station starts loads outside past c small serving ticks leg (ap (λ (xs : List Sample). drop 1 xs) quiet)
+            (λ tick low high. stays tick low (omega (arith, high))),
+      )
+
+  end-hearing : hearing_after k station starts loads outside ((x ∷ ticks) ++ past)
+      ≡ record { memory = hearing.memory; ticks = moment_of x course ∷ (moments ++ hearing.ticks) }
+  end-hearing = ap (λ (so : StationSoFar). so.hearing) (serving-hears k station starts loads outside past (x ∷ ticks) serving.serves took-nothing)
+
+  handled-at : length (moments ++ hearing.ticks) ≡ end_of burst + k
+  handled-at =
+      let both : length (moments ++ hearing.ticks) ≡ length moments + length hearing.ticks = length-append moments hearing.ticks in
+      let here : length moments ≡ length ticks = moments-many course ticks in
+      let before : length hearing.ticks ≡ length past = hearing-long k station starts loads outside past in
+      omega (arith, both, here, before, many)
+
+  pub heard-burst : HeardBurst k station starts loads outside past (x ∷ ticks) c burst
+  heard-burst = record {
+    hears = end-hearing;
+    course = serving-same k station starts loads outside past (x ∷ ticks) serving.serves took-nothing;
+    obeyed = λ order last.
+        let s = standing_after k t loads hearing in
+        let e = end-obeyed k t loads hearing.memory c hearing.ticks moments (moment_of x course) burst small serving.listens end-leg end-quiet end-burst
+        (sym (hearing-long k station starts loads outside past)) order last in (
+          e.0,
+          ap (standing_after k t loads) end-hearing
+              ∙ e.3
+              ∙ ap (λ tick. after_command s c (end_of burst) e.0 (obeyed_in t loads tick s c order (rest_of burst) (has_items course.left))) handled-at,
+          ap (took_now k t loads) end-hearing
+              ∙ e.4
+              ∙ ap (λ tick. (obeyed_in t loads tick s c order (rest_of burst) (has_items course.left)).taken) handled-at,
+        );
+    due = λ order last mays.
+        let s = standing_after k t loads hearing in
+        let o : ℕ → Obeyed = λ tick. obeyed_in t loads tick s c order (rest_of burst) (has_items course.left) in
+        let Begins : Hearing → ℕ → Type 0 = λ h tick. length (quiet_moments mays ++ h.ticks) ≡ due_after t (end_of burst) → is_owed (o tick).duty ≡ true →
+        BeginsAnswer k t (standing k t loads h.memory (quiet_moments mays ++ h.ticks)) c (quiet_moments mays ++ h.ticks)
+        × ((standing k t loads h.memory (quiet_moments mays ++ h.ticks)).duty ≡ (o tick).duty)
+        × ((standing k t loads h.memory (quiet_moments mays ++ h.ticks)).part ≡ First) in
+        subst (λ h. Begins h (end_of burst + k)) (sym end-hearing)
+        (subst (λ tick. Begins record { memory = hearing.memory; ticks = moment_of x course ∷ (moments ++ hearing.ticks) } tick) handled-at
+        (end-due k t loads hearing.memory c hearing.ticks moments (moment_of x course) burst small serving.listens end-leg end-quiet end-burst
+        (sym (hearing-long k station starts loads outside past)) order last mays));
+    settled = λ command transmitter last made.
+        let s = standing_after k t loads hearing in
+        let e = end-settled k t loads hearing.memory c hearing.ticks moments (moment_of x course) burst small serving.listens end-leg end-quiet end-burst
+        (sym (hearing-long k station starts loads outside past)) command transmitter last made in (
+          ap (standing_after k t loads) end-hearing
+              ∙ e.0
+              ∙ ap (λ tick. after_promise s (end_of burst) (settled_in t loads tick s c command transmitter burst)) handled-at,
+          ap (took_now k t loads) end-hearing
+              ∙ e.1
+              ∙ ap (λ tick. (settled_in t loads tick s c command transmitter burst).taken) handled-at,
+        );
+    settled_due = λ command transmitter last mays made.
+        let s = standing_after k t loads hearing in
+        let o : ℕ → Obeyed = λ tick. settled_in t loads tick s c command transmitter burst in
+        let Begins : Hearing → ℕ → Type 0 = λ h tick. length (quiet_moments mays ++ h.ticks) ≡ due_after t (end_of burst) → is_owed (o tick).duty ≡ true →
+        BeginsAnswer k t (standing k t loads h.memory (quiet_moments mays ++ h.ticks)) c (quiet_moments mays ++ h.ticks)
+        × ((standing k t loads h.memory (quiet_moments mays ++ h.ticks)).duty ≡ (o tick).duty)
+        × ((standing k t loads h.memory (quiet_moments mays ++ h.ticks)).part ≡ Second) in
+        subst (λ h. Begins h (end_of burst + k)) (sym end-hearing)
+        (subst (λ tick. Begins record { memory = hearing.memory; ticks = moment_of x course ∷ (moments ++ hearing.ticks) } tick) handled-at
+        (end-settled-due k t loads hearing.memory c hearing.ticks moments (moment_of x course) burst small serving.listens end-leg end-quiet end-burst
+        (sym (hearing-long k station starts loads outside past)) command transmitter last mays made));
+    passed = λ last none.
+        let e = end-passed k t loads hearing.memory c hearing.ticks moments (moment_of x course) burst small serving.listens end-leg end-quiet end-burst
+        (sym (hearing-long k station starts loads outside past)) last none in
+        (ap (standing_after k t loads) end-hearing ∙ e.0, ap (took_now k t loads) end-hearing ∙ e.1);
+  }
+
+-- ---- one that is free
+
+pub heard-command : (k : ℕ) (station : StationData) (starts : Bool) (loads : List TimedLoad) (outside : List OutsideTake) (past : List Pair) (c : Channel) →
+    k < 40 → IsServing k station starts loads outside past → (x : Pair) (ticks : List Pair) (hits : List Hit) (words : List Word) → 0 < length words →
+    AreHeard hits words → length ticks ≡ k + 40 * length words → InLeg k (on_channel c ticks) →
+    on_channel c (x ∷ ticks) ≡ quiet_ticks (suc k) ++ struck_spelling hits words (40 * length words) →
+    on_channel (other_of c) (x ∷ ticks) ≡ quiet_ticks (length (x ∷ ticks)) →
+    ((tick : ℕ) → length past ≤ tick → tick < length past + length (x ∷ ticks) → outside_takes k station starts loads outside tick outside ≡ []) →
+    HeardCommand k station starts loads outside past (x ∷ ticks) c (burst_sent (length past) hits words)
+heard-command k station starts loads outside past c small serving x ticks hits words some audible many leg shown quiet stays =
+    let h = heard-burst k station starts loads outside past c small (serving-listens k station starts loads outside past c serving) x ticks hits words some
+    audible many leg shown quiet stays in
+    record { hears = h.hears; course = h.course; obeyed = h.obeyed; due = h.due; passed = λ last. h.passed last serving.free.promise }
