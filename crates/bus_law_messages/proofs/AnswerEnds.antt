@@ -34,156 +34,93 @@ use Rattle.bus_law_messages.specs.Commands.{LeavesWhole, WordsEnd}
 use Rattle.bus_law_messages.specs.Ends.{burst_sent, HeardCommand}
 use Rattle.bus_law_messages.specs.Answers.{AnswerDue, answer_sender, LeavesNothing}
 use Rattle.bus_law_messages.specs.AnswerRead.{AnswerRead}
-use Rattle.bus_law_messages.proofs.Listening.{serving-listens, serving-silent}
+use Rattle.bus_law_messages.proofs.Listening.{serving-listens}
 use Rattle.bus_law_messages.proofs.Running.{RunsAlone, words-over}
 use Rattle.bus_law_messages.proofs.Sending.{place-silent, place-drives, none-takes-from, shown-long}
-use Rattle.bus_law_messages.proofs.Heard.{burst-of}
-use Rattle.bus_law_messages.proofs.HeardBursts.{heard-command}
+use Rattle.bus_law_messages.proofs.AnswerSpoken.{Speaking, Spoken, answer-spoken}
 use Rattle.bus_law_messages.proofs.Unanswered.{first-silent, rests-both, serving-again, trace-later}
-use Rattle.bus_law_messages.proofs.Answering.{answer-drives, serving-after}
+use Rattle.bus_law_messages.proofs.Answering.{first-reply}
 use Rattle.bus_law_messages.proofs.Waiting.{not-yielded, waiting-silent, read-course}
+
+-- the moment in which the first answer is due
+speaks : (k : ℕ) (plan : PlanData) (loads : List TimedLoad) (outside : List OutsideTake) (absent : List ℕ) (before : Trace) (place : ℕ)
+    (holder : StationData) (begun : Begun) (e answerer : ℕ) (answering : StationData) (words : List Word) →
+    AnswerDue k plan loads outside absent before place holder begun e answerer answering words →
+    Speaking k plan loads outside absent before place holder begun.state.channel First answerer answering words
+speaks k plan loads outside absent before place holder begun e answerer answering words due = record {
+  rests = due.rests;
+  undriven = due.undriven;
+  spent = due.spent;
+  there = due.there;
+  present = due.present;
+  silent = waiting-silent k holder (starts plan holder) loads outside before.shown begun e due.waits (due.rests begun.state.channel);
+  apart = due.apart;
+  there_too = due.there_too;
+  present_too = due.present_too;
+  answers = first-reply k answering (starts plan answering) loads outside before.shown begun.state.channel words due.answers;
+  others = λ other station there away apart present.
+      serving-listens k station (starts plan station) loads outside before.shown begun.state.channel (due.others other station there away apart present);
+}
 
 module _ (k : ℕ) (plan : PlanData) (loads : List TimedLoad) (outside : List OutsideTake) (absent : List ℕ) (before : Trace) (place t : ℕ)
     (holder : StationData) (begun : Begun) (e answerer : ℕ) (answering : StationData) (words : List Word) (hits : List Hit)
-    (long : length before.shown ≡ t) (small : k < 40)
-    (due : AnswerDue k plan loads outside absent before place holder begun e answerer answering words)
-    (whole : LeavesWhole plan.faults First before.driven hits words) (some : 0 < length words) (added : added_by hits ≡ 0)
-    (stays : NoneTakes k plan loads outside place t (t + (40 * length words + suc k))) where
+    (due : AnswerDue k plan loads outside absent before place holder begun e answerer answering words) (ending : Ended)
+    (reads : (shown : List Pair) (heard : List Sample) → first_read k begun.entry.item shown heard (burst_sent t hits words)
+    (read_answer begun.entry.item.kind First (slots_shown hits 0 words) (rest_of (burst_sent t hits words))) ≡ Some ending)
+    (kept : gives ending.outcome ≡ false)
+    (nothing : LeavesNothing k plan loads outside absent before.shown place answerer begun.state.channel (burst_sent t hits words))
+    (x : Pair) (ticks : List Pair) (sent silent : List (List Drive))
+    (so : Spoken k plan loads outside absent before place t begun.state.channel First answerer answering words hits x ticks sent silent) where
   abbrev c : Channel
   c = begun.state.channel
 
-  abbrev sender : Sender
-  sender = answer_sender answerer begun words
+  is-ended : course_after k holder (starts plan holder) loads outside ((x ∷ ticks) ++ before.shown)
+      ≡ close (course_after k holder (starts plan holder) loads outside before.shown) begun ending (t + 40 * length words + k)
+  is-ended =
+      read-course k holder (starts plan holder) loads outside before.shown begun e due.waits (due.rests c) x ticks (burst_sent t hits words) ending so.alone
+      so.ended reads kept
+      ∙ ap (close (course_after k holder (starts plan holder) loads outside before.shown) begun ending) so.last
 
-  abbrev limit : ℕ
-  limit = 40 * length words + suc k
+  heard-free : (other : ℕ) (station : StationData) → slice_get plan.stations other ≡ Some station → other ≢ place → other ≢ answerer →
+      is_present absent station ≡ true → HeardCommand k station (starts plan station) loads outside before.shown (x ∷ ticks) c (burst_sent t hits words)
+  heard-free other station there away apart present =
+      let h = so.heard other station there away apart present in
+      record {
+        hears = h.hears;
+        course = h.course;
+        obeyed = h.obeyed;
+        due = h.due;
+        passed = λ last. h.passed last (due.others other station there away apart present).free.promise;
+      }
 
-  abbrev burst : Burst
-  burst = burst_sent t hits words
-
-  abbrev Ends : List Pair → List (List Drive) → List (List Drive) → Type 0
-  Ends ticks sent silent = WordsEnd k plan loads outside absent before sender hits limit (suc k) ticks sent silent
-
-  here : NoneTakes k plan loads outside place (length before.shown) (length before.shown + limit)
-  here = none-takes-from k plan loads outside place t (length before.shown) limit long stays
-
-  -- ---- what the stations drive
-
-  own-drives : (ticks : List Pair) → RunsAlone k c ticks → length ticks < limit →
-      slice_get (drives_after k plan loads outside absent (ticks ++ before.shown)) answerer ≡ Some (drive_sample c First words (length ticks))
-  own-drives ticks alone early =
-      place-drives k plan loads outside absent (ticks ++ before.shown) answerer answering (drive_sample c First words (length ticks)) due.there_too
-      due.present_too
-      (answer-drives k answering (starts plan answering) loads outside before.shown c words due.answers ticks alone
-      (λ tick low high. here answerer answering due.there_too due.apart tick low (omega (arith, high, early))))
-
-  waits-silent : (ticks : List Pair) → RunsAlone k c ticks → station_drive place (drives_after k plan loads outside absent (ticks ++ before.shown)) ≡ Silent
-  waits-silent ticks alone =
-      ap drive_or (place-drives k plan loads outside absent (ticks ++ before.shown) place holder Silent due.there due.present
-      (waiting-silent k holder (starts plan holder) loads outside before.shown begun e due.waits (due.rests c) ticks alone))
-
-  others-silent : (ticks : List Pair) → RunsAlone k c ticks → length ticks < limit → (other : ℕ) → other ≢ answerer →
-      station_drive other (drives_after k plan loads outside absent (ticks ++ before.shown)) ≡ Silent
-  others-silent ticks alone early other apart = elim (cases_eq other place) [
-    | inl same ↦ ap (λ i. station_drive i (drives_after k plan loads outside absent (ticks ++ before.shown))) same ∙ waits-silent ticks alone
-    | inr away ↦ place-silent k plan loads outside absent (ticks ++ before.shown) other (λ station there present.
-        serving-silent k station (starts plan station) loads outside before.shown c small
-        (serving-listens k station (starts plan station) loads outside before.shown c (due.others other station there away apart present)) ticks
-        alone.0 alone.1 (λ tick low high. here other station there away tick low (omega (arith, high, early))))
+  serves-again : (other : ℕ) (station : StationData) → slice_get plan.stations other ≡ Some station → other ≢ place → is_present absent station ≡ true →
+      IsServing k station (starts plan station) loads outside ((x ∷ ticks) ++ before.shown)
+  serves-again other station there away present = elim (cases_eq other answerer) [
+    | inl same ↦ (let is : station ≡ answering = same_Some station answering (sym there ∙ ap (slice_get plan.stations) same ∙ due.there_too) in
+        subst (λ u. IsServing k u (starts plan u) loads outside ((x ∷ ticks) ++ before.shown)) (sym is) so.answered)
+    | inr apart ↦ serving-again k loads outside before.shown (x ∷ ticks) c (burst_sent t hits words) so.quiets station (starts plan station)
+        (due.others other station there away apart present) (heard-free other station there away apart present)
+        (nothing other station there away apart present)
   ]
 
-  -- ---- what its end leaves
+  pub ended-settled : Settled k plan loads outside absent record { shown = (x ∷ ticks) ++ before.shown; driven = silent ++ (sent ++ before.driven) } place holder
+  ended-settled = record {
+    rests = so.rests;
+    undriven = so.undriven;
+    spent = so.spent;
+    there = due.there;
+    present = due.present;
+    controls = record {
+      holds = ap (λ (d : Course). d.holds) is-ended ∙ ap not kept;
+      idle = ap (λ (d : Course). d.runs) is-ended;
+      before = λ tick late. ap (λ (d : Course). yielded_in tick d.ended) is-ended
+          ∙ not-yielded (t + 40 * length words + k == tick) ending.outcome kept;
+    };
+    others = serves-again;
+  }
 
-  channel-ends : (x : Pair) (ticks : List Pair) (sent silent : List (List Drive)) → Ends (x ∷ ticks) sent silent →
-      ended_now k (on_channel c (x ∷ (ticks ++ before.shown))) ≡ Some burst
-  channel-ends x ticks sent silent so =
-      ap (ended_now k) (on-append c (x ∷ ticks) before.shown)
-      ∙ ap (λ xs. ended_now k (xs ++ on_channel c before.shown)) so.shown
-      ∙ burst-of k hits words (on_channel c before.shown) (due.rests c) whole.heard some
-      ∙ ap (λ n. Some (burst_sent n hits words)) (length-on c before.shown ∙ long)
-
-  heard-it : (x : Pair) (ticks : List Pair) (sent silent : List (List Drive)) → Ends (x ∷ ticks) sent silent → RunsAlone k c ticks →
-      (other : ℕ) (station : StationData) → slice_get plan.stations other ≡ Some station → other ≢ place → other ≢ answerer →
-      is_present absent station ≡ true → HeardCommand k station (starts plan station) loads outside before.shown (x ∷ ticks) c burst
-  heard-it x ticks sent silent so alone other station there away apart present =
-      let at : suc (length ticks) ≡ 40 * length words + suc k = so.many in
-      subst (λ m. HeardCommand k station (starts plan station) loads outside before.shown (x ∷ ticks) c (burst_sent m hits words)) long
-      (heard-command k station (starts plan station) loads outside before.shown c small (due.others other station there away apart present) x ticks
-      hits words some whole.heard (omega (arith, at)) alone.0 so.shown (so.quiet ∙ ap quiet_ticks (sym so.many))
-      (λ tick low high. here other station there away tick low (omega (arith, high, at))))
-
-  module _ (ending : Ended)
-      (reads : (shown : List Pair) (heard : List Sample) → first_read k begun.entry.item shown heard (burst_sent t hits words)
-      (read_answer begun.entry.item.kind First (slots_shown hits 0 words) (rest_of (burst_sent t hits words))) ≡ Some ending)
-      (kept : gives ending.outcome ≡ false)
-      (nothing : LeavesNothing k plan loads outside absent before.shown place answerer c burst) where
-    is-ended : (x : Pair) (ticks : List Pair) (sent silent : List (List Drive)) → Ends (x ∷ ticks) sent silent → RunsAlone k c ticks →
-        course_after k holder (starts plan holder) loads outside ((x ∷ ticks) ++ before.shown)
-        ≡ close (course_after k holder (starts plan holder) loads outside before.shown) begun ending (t + 40 * length words + k)
-    is-ended x ticks sent silent so alone =
-        let at : suc (length ticks) ≡ 40 * length words + suc k = so.many in
-        let count : length (ticks ++ before.shown) ≡ length ticks + length before.shown = length-append ticks before.shown in
-        let tick : length (ticks ++ before.shown) ≡ t + 40 * length words + k = omega (arith, at, count, long) in
-        read-course k holder (starts plan holder) loads outside before.shown begun e due.waits (due.rests c) x ticks burst ending alone
-        (channel-ends x ticks sent silent so) reads kept
-        ∙ ap (close (course_after k holder (starts plan holder) loads outside before.shown) begun ending) tick
-
-    rests-ticks : (ticks : List Pair) (sent silent : List (List Drive)) → Ends ticks sent silent → (d : Channel) (past : List Sample) →
-        runs k past ≡ false → runs k (on_channel d ticks ++ past) ≡ false
-    rests-ticks ticks sent silent so = rests-both k limit c _ ticks so.shown so.quiet
-
-    -- the one that answered is free
-    answerer-again : (x : Pair) (ticks : List Pair) (sent silent : List (List Drive)) → Ends (x ∷ ticks) sent silent → RunsAlone k c ticks →
-        IsServing k answering (starts plan answering) loads outside ((x ∷ ticks) ++ before.shown)
-    answerer-again x [] sent silent so alone = let at : 1 ≡ 40 * length words + suc k = so.many in absurd (omega (arith, at, some))
-    answerer-again x (y ∷ ticks) sent silent so alone =
-        let at : suc (suc (length ticks)) ≡ 40 * length words + suc k = so.many in
-        serving-after k answering (starts plan answering) loads outside before.shown c words due.answers x y ticks hits whole.heard some alone
-        (λ tick low high. here answerer answering due.there_too due.apart tick low (omega (arith, high, at)))
-        so.shown (so.quiet ∙ ap quiet_ticks (sym so.many)) (rests-ticks (x ∷ y ∷ ticks) sent silent so)
-
-    serves-again : (x : Pair) (ticks : List Pair) (sent silent : List (List Drive)) → Ends (x ∷ ticks) sent silent → RunsAlone k c ticks →
-        (other : ℕ) (station : StationData) → slice_get plan.stations other ≡ Some station → other ≢ place → is_present absent station ≡ true →
-        IsServing k station (starts plan station) loads outside ((x ∷ ticks) ++ before.shown)
-    serves-again x ticks sent silent so alone other station there away present = elim (cases_eq other answerer) [
-      | inl same ↦ (let is : station ≡ answering = same_Some station answering (sym there ∙ ap (slice_get plan.stations) same ∙ due.there_too) in
-          subst (λ u. IsServing k u (starts plan u) loads outside ((x ∷ ticks) ++ before.shown)) (sym is) (answerer-again x ticks sent silent so alone))
-      | inr apart ↦ serving-again k loads outside before.shown (x ∷ ticks) c burst (rests-ticks (x ∷ ticks) sent silent so) station (starts plan station)
-          (due.others other station there away apart present) (heard-it x ticks sent silent so alone other station there away apart present)
-          (nothing other station there away apart present)
-    ]
-
-    settled-ended : (x : Pair) (ticks : List Pair) (sent silent : List (List Drive)) → Ends (x ∷ ticks) sent silent → RunsAlone k c ticks →
-        Settled k plan loads outside absent record { shown = (x ∷ ticks) ++ before.shown; driven = silent ++ (sent ++ before.driven) } place holder
-    settled-ended x ticks sent silent so alone =
-        let same = is-ended x ticks sent silent so alone in
-        record {
-          rests = λ d. ap (runs k) (on-append d (x ∷ ticks) before.shown)
-              ∙ rests-ticks (x ∷ ticks) sent silent so d (on_channel d before.shown) (due.rests d);
-          undriven = first-silent plan.faults (sent ++ before.driven) silent so.left (omega (arith, so.after));
-          spent = λ d station. left-spent plan.faults d (sent ++ before.driven) silent (so.left d) station;
-          there = due.there;
-          present = due.present;
-          controls = record {
-            holds = ap (λ (d : Course). d.holds) same ∙ ap not kept;
-            idle = ap (λ (d : Course). d.runs) same;
-            before = λ tick late. ap (λ (d : Course). yielded_in tick d.ended) same ∙ not-yielded (t + 40 * length words + k == tick) ending.outcome kept;
-          };
-          others = serves-again x ticks sent silent so alone;
-        }
-
-    pub answer-over : (ticks : List Pair) × (sent : List (List Drive)) × (silent : List (List Drive))
-        × AnswerRead k plan loads outside absent before place holder begun answerer words hits ending t ticks sent silent
-        × Settled k plan loads outside absent record { shown = ticks ++ before.shown; driven = silent ++ (sent ++ before.driven) } place holder
-    answer-over =
-        let o = words-over k plan loads outside absent before sender hits limit due.undriven due.spent whole own-drives others-silent
-        some added (omega arith) in (
-          o.0 ∷ o.1,
-          o.2,
-          o.3,
-          record { ends = o.4; controls = is-ended o.0 o.1 o.2 o.3 o.4 o.5; others = heard-it o.0 o.1 o.2 o.3 o.4 o.5 },
-          settled-ended o.0 o.1 o.2 o.3 o.4 o.5,
-        )
+  pub ended-read : AnswerRead k plan loads outside absent before place holder begun answerer words hits ending t (x ∷ ticks) sent silent
+  ended-read = record { ends = so.ends; controls = is-ended; others = heard-free }
 
 -- the ending, by the tick's number
 pub read-at : (k : ℕ) (plan : PlanData) (loads : List TimedLoad) (outside : List OutsideTake) (absent : List ℕ) (t place : ℕ) (holder : StationData)
@@ -203,9 +140,19 @@ pub read-at : (k : ℕ) (plan : PlanData) (loads : List TimedLoad) (outside : Li
     × Settled k plan loads outside absent after place holder
 read-at k plan loads outside absent t place holder begun e answerer answering words hits ending small due stays whole some added reads kept nothing =
     let no_rest : rest_of (burst_sent t hits words) ≡ 0 = let none : 40 * length words % 40 ≡ 0 = omega arith in none in
-    let o = answer-over k plan loads outside absent (trace k plan loads outside absent t) place t holder begun e answerer answering words hits
-    (shown-long k plan loads outside absent t) small due whole some added stays ending
-    (λ shown heard. ap (λ rest. first_read k begun.entry.item shown heard (burst_sent t hits words)
-    (read_answer begun.entry.item.kind First (slots_shown hits 0 words) rest)) no_rest ∙ reads shown heard) kept nothing in
-    let later = sym (trace-later k plan loads outside absent t (40 * length words + suc k)) ∙ o.3.ends.world in
-    (o.0, o.1, o.2, o.3, later, subst (λ tr. Settled k plan loads outside absent tr place holder) (sym later) o.4)
+    let before : Trace = trace k plan loads outside absent t in
+    let o = answer-spoken k plan loads outside absent before place t holder begun.state.channel First answerer answering words hits
+    (shown-long k plan loads outside absent t) small (speaks k plan loads outside absent before place holder begun e answerer answering words due)
+    whole some added stays in
+    let reads_rest = λ (shown : List Pair) (heard : List Sample). ap (λ rest. first_read k begun.entry.item shown heard (burst_sent t hits words)
+    (read_answer begun.entry.item.kind First (slots_shown hits 0 words) rest)) no_rest ∙ reads shown heard in
+    let later = sym (trace-later k plan loads outside absent t (40 * length words + suc k)) ∙ o.4.ends.world in (
+      o.0 ∷ o.1,
+      o.2,
+      o.3,
+      ended-read k plan loads outside absent before place t holder begun e answerer answering words hits due ending reads_rest kept nothing o.0 o.1 o.2 o.3 o.4,
+      later,
+      subst (λ tr. Settled k plan loads outside absent tr place holder) (sym later)
+          (ended-settled k plan loads outside absent before place t holder begun e answerer answering words hits due ending reads_rest kept nothing
+          o.0 o.1 o.2 o.3 o.4),
+    )

@@ -6,6 +6,7 @@ use Rattle.bus_base.specs.Samples.{sample_on, other_of}
 use Rattle.bus_base.specs.declared.samples.Channel.{Channel}
 use Rattle.bus_base.specs.declared.samples.Channel.TheVariants.{A, B}
 use Rattle.bus_base.specs.declared.samples.Pair.{Pair}
+use Rattle.bus_base.specs.declared.samples.Part.{Part}
 use Rattle.bus_base.specs.declared.samples.Part.TheVariants.{First}
 use Rattle.bus_base.specs.declared.samples.Sample.{Sample}
 use Rattle.bus_words.specs.declared.word.Word.{Word}
@@ -33,6 +34,7 @@ use Rattle.bus_law_stations.proofs.Turning.{serving-hears, serving-same, serving
 use Rattle.bus_law_stations.proofs.Unheeded.{quiet-unheeded}
 use Rattle.bus_law_messages.specs.Settled.{IsFree, IsServing}
 use Rattle.bus_law_messages.specs.Answers.{IsAnswering}
+use Rattle.bus_law_messages.specs.Promises.{IsReplying}
 use Rattle.bus_law_messages.proofs.Listening.{moments-shown, moments-many, this-or-other}
 use Rattle.bus_law_messages.proofs.Running.{RunsAlone}
 
@@ -44,8 +46,13 @@ other-sent : (s : Standing) (c : Channel) (m : Option ℕ) → mark_on (with_sen
 other-sent s A m = refl
 other-sent s B m = refl
 
+pub first-reply : (k : ℕ) (station : StationData) (starts : Bool) (loads : List TimedLoad) (outside : List OutsideTake) (past : List Pair) (c : Channel)
+    (words : List Word) → IsAnswering k station starts loads outside past c words → IsReplying k station starts loads outside past c First words
+first-reply k station starts loads outside past c words a =
+    record { serves = a.serves; begins = a.begins; duty = a.duty; part_is = a.first; rests = a.rests; heeds = a.heeds }
+
 module _ (k : ℕ) (station : StationData) (starts : Bool) (loads : List TimedLoad) (outside : List OutsideTake) (past : List Pair) (c : Channel)
-    (words : List Word) (answers : IsAnswering k station starts loads outside past c words) where
+    (part : Part) (words : List Word) (answers : IsReplying k station starts loads outside past c part words) where
   abbrev t : TerminalData
   t = station.terminal
 
@@ -103,12 +110,12 @@ module _ (k : ℕ) (station : StationData) (starts : Bool) (loads : List TimedLo
 
   -- it sends its words
   pub answer-drives : (ticks : List Pair) → RunsAlone k c ticks → Stays (length ticks) →
-      drives_next k station starts loads outside (ticks ++ past) ≡ drive_sample c First words (length ticks)
+      drives_next k station starts loads outside (ticks ++ past) ≡ drive_sample c part words (length ticks)
   answer-drives ticks alone stays =
       serving-sends k station starts loads outside past ticks answers.serves (takes-nothing ticks alone stays)
       ∙ sender-drives k t loads hearing.memory c hearing.ticks (moments_of course ticks) words false answers.begins (hears-answer ticks alone) answers.duty
-      ∙ ap (λ p. drive_sample c p words (length (moments_of course ticks))) answers.first
-      ∙ ap (drive_sample c First words) (moments-many course ticks)
+      ∙ ap (λ p. drive_sample c p words (length (moments_of course ticks))) answers.part_is
+      ∙ ap (drive_sample c part words) (moments-many course ticks)
 
   -- ---- at the end
 

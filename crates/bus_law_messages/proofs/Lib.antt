@@ -28,3 +28,4 @@ pub mod Unheard
 pub mod AnswerEnds
 pub mod BlockOver
 pub mod HeardBursts
+pub mod AnswerSpoken

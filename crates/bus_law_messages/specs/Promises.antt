@@ -1,13 +1,16 @@
 -- A terminal that may have promised to take the next burst, as a relay's receiver, and what the end of that burst leaves of it.
 use Rattle.std.specs.Prelude.{◌≡◌, ℕ, ◌+◌, ◌≤◌, Bool, true, false, List, ◌++◌, length, Some, None}
+use Rattle.bus_base.specs.Samples.{other_of}
 use Rattle.bus_base.specs.declared.samples.Channel.{Channel}
 use Rattle.bus_base.specs.declared.samples.Pair.{Pair}
+use Rattle.bus_base.specs.declared.samples.Part.{Part}
 use Rattle.bus_base.specs.declared.samples.Part.TheVariants.{First, Second}
+use Rattle.bus_words.specs.declared.word.Word.{Word}
 use Rattle.bus_line.specs.Past.{Burst, end_of, rest_of, runs}
 use Rattle.bus_formats.specs.Plans.{TerminalData, StationData}
 use Rattle.bus_model.specs.Waits.{relay_wait}
 use Rattle.bus_model.specs.Memory.{TimedLoad}
-use Rattle.bus_model.specs.Orders.{Obeyed, Order, promises, last_order, due_after}
+use Rattle.bus_model.specs.Orders.{Obeyed, Order, owes, promises, last_order, due_after}
 use Rattle.bus_model.specs.Hearing.{Moment, Hearing, heard_on}
 use Rattle.bus_model.specs.Standing.{mark_on, Standing, superseded, ignored_from, is_owed, is_promise}
 use Rattle.bus_model.specs.Terminal.{is_over, standing, standing_after, took_now}
@@ -85,3 +88,17 @@ pub record HeardBurst (k : ℕ) (station : StationData) (starts : Bool) (loads :
       (standing_after k station.terminal loads (hearing_after k station starts loads outside (ticks ++ past))
       ≡ standing_after k station.terminal loads (hearing_after k station starts loads outside past))
       × (took_now k station.terminal loads (hearing_after k station starts loads outside (ticks ++ past)) ≡ None)
+
+-- a serving station begins to answer on a channel with these words, which accept no control, as this part of a message
+pub record IsReplying (k : ℕ) (station : StationData) (starts : Bool) (loads : List TimedLoad) (outside : List OutsideTake) (past : List Pair)
+    (c : Channel) (part : Part) (words : List Word) : Type 0 where
+  pub serves : Serves (course_after k station starts loads outside past)
+  -- the answer is due in the tick to come
+  pub begins : BeginsAnswer k station.terminal (standing_after k station.terminal loads (hearing_after k station starts loads outside past)) c
+      (hearing_after k station starts loads outside past).ticks
+  pub duty : (standing_after k station.terminal loads (hearing_after k station starts loads outside past)).duty ≡ owes words false
+  pub part_is : (standing_after k station.terminal loads (hearing_after k station starts loads outside past)).part ≡ part
+  -- no burst runs on a channel as its terminal heard it, and it doesn't ignore the other one
+  pub rests : (d : Channel) → runs k (heard_on d (hearing_after k station starts loads outside past).ticks) ≡ false
+  pub heeds : ignored_from k (heard_on (other_of c) (hearing_after k station starts loads outside past).ticks)
+      (mark_on (standing_after k station.terminal loads (hearing_after k station starts loads outside past)).sent (other_of c)) ≡ false
