@@ -40,7 +40,7 @@ use Rattle.bus_law_messages.proofs.Sending.{place-silent, place-drives, none-tak
 use Rattle.bus_law_messages.proofs.AnswerSpoken.{Speaking, Spoken, answer-spoken}
 use Rattle.bus_law_messages.proofs.Unanswered.{first-silent, rests-both, serving-again, trace-later}
 use Rattle.bus_law_messages.proofs.Answering.{first-reply}
-use Rattle.bus_law_messages.proofs.Waiting.{not-yielded, waiting-silent, read-course}
+use Rattle.bus_law_messages.proofs.Waiting.{not-yielded, first-holding, waiting-silent, read-course}
 
 -- the moment in which the first answer is due
 speaks : (k : ℕ) (plan : PlanData) (loads : List TimedLoad) (outside : List OutsideTake) (absent : List ℕ) (before : Trace) (place : ℕ)
@@ -53,7 +53,9 @@ speaks k plan loads outside absent before place holder begun e answerer answerin
   spent = due.spent;
   there = due.there;
   present = due.present;
-  silent = waiting-silent k holder (starts plan holder) loads outside before.shown begun e due.waits (due.rests begun.state.channel);
+  silent = waiting-silent k holder (starts plan holder) loads outside before.shown begun e
+      (first-holding k begun (course_after k holder (starts plan holder) loads outside before.shown) before.shown e due.waits) due.waits.answered.prompt
+      (due.rests begun.state.channel);
   apart = due.apart;
   there_too = due.there_too;
   present_too = due.present_too;
@@ -77,8 +79,9 @@ module _ (k : ℕ) (plan : PlanData) (loads : List TimedLoad) (outside : List Ou
   is-ended : course_after k holder (starts plan holder) loads outside ((x ∷ ticks) ++ before.shown)
       ≡ close (course_after k holder (starts plan holder) loads outside before.shown) begun ending (t + 40 * length words + k)
   is-ended =
-      read-course k holder (starts plan holder) loads outside before.shown begun e due.waits (due.rests c) x ticks (burst_sent t hits words) ending so.alone
-      so.ended reads kept
+      read-course k holder (starts plan holder) loads outside before.shown begun e
+      (first-holding k begun (course_after k holder (starts plan holder) loads outside before.shown) before.shown e due.waits) due.waits.answered.prompt
+      (due.rests c) x ticks (burst_sent t hits words) so.alone so.ended due.waits.awaits ending reads kept
       ∙ ap (close (course_after k holder (starts plan holder) loads outside before.shown) begun ending) so.last
 
   heard-free : (other : ℕ) (station : StationData) → slice_get plan.stations other ≡ Some station → other ≢ place → other ≢ answerer →

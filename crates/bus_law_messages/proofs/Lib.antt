@@ -29,3 +29,6 @@ pub mod AnswerEnds
 pub mod BlockOver
 pub mod HeardBursts
 pub mod AnswerSpoken
+pub mod ListensOn
+pub mod OwesOn
+pub mod PauseToReply

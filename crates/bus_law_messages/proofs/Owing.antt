@@ -6,6 +6,7 @@ use Rattle.std.specs.Prelude.{slice_get, not}
 use Rattle.bus_base.specs.Samples.{other_of, same_channel}
 use Rattle.bus_base.specs.declared.samples.Channel.{Channel}
 use Rattle.bus_base.specs.declared.samples.Channel.TheVariants.{A, B}
+use Rattle.bus_base.specs.declared.samples.Part.TheVariants.{First}
 use Rattle.bus_base.specs.declared.samples.Drive.{Drive}
 use Rattle.bus_base.specs.declared.samples.Drive.TheVariants.{Silent}
 use Rattle.bus_base.specs.declared.samples.Pair.{Pair}
@@ -27,7 +28,7 @@ use Rattle.bus_model.specs.Terminal.{standing_after}
 use Rattle.bus_model.specs.Transmissions.{drive_or, station_drive}
 use Rattle.bus_model.specs.Attempts.{Begun}
 use Rattle.bus_model.specs.Course.{Course}
-use Rattle.bus_model.specs.Control.{OutsideTake, StationSoFar, yielded_in, course_after, hearing_after}
+use Rattle.bus_model.specs.Control.{OutsideTake, course_after, hearing_after, drives_next}
 use Rattle.bus_model.specs.World.{Trace, is_present, drives_after, ticks_on}
 use Rattle.bus_law_line.specs.Senders.{IsSpent, LeftAlone}
 use Rattle.bus_law_line.proofs.Sent.{left-spent}
@@ -48,6 +49,8 @@ use Rattle.bus_law_messages.proofs.Heard.{hearing-long}
 use Rattle.bus_law_messages.proofs.Unanswered.{serving-again}
 use Rattle.bus_law_messages.proofs.Awaiting.{awaits-quiet}
 use Rattle.bus_law_messages.proofs.Midway.{Waits, waits-on, mid-long as end-long, rests-over, mid-rests as both-rest, mid-spent, mid-undriven, mid-waits}
+use Rattle.bus_law_messages.proofs.OwesOn.{OwesAnswer}
+use Rattle.bus_law_messages.proofs.PauseToReply.{Awaited, holding-then, replies-then, pauses, rests-then, undriven-then, spent-then}
 use Rattle.bus_law_messages.proofs.Pausing.{on-quiet, same-course, holder-silent, serving-still, serving-quiet, paused, undriven-still}
 
 module _ (k : ℕ) (plan : PlanData) (loads : List TimedLoad) (outside : List OutsideTake) (absent : List ℕ) (before : Trace) (place : ℕ)
@@ -61,13 +64,7 @@ module _ (k : ℕ) (plan : PlanData) (loads : List TimedLoad) (outside : List Ou
     (owed : (obeyed_in answering.terminal loads (end_of (burst_sent begun.start hits (command_words begun.entry.item.kind)) + k)
     (standing_after k answering.terminal loads (hearing_after k answering (starts plan answering) loads outside before.shown)) begun.state.channel order
     (rest_of (burst_sent begun.start hits (command_words begun.entry.item.kind)))
-    (has_items (course_after k answering (starts plan answering) loads outside before.shown).left)).duty ≡ owes words false)
-    (nothing : LeavesNothing k plan loads outside absent before.shown place answerer begun.state.channel
-    (burst_sent begun.start hits (command_words begun.entry.item.kind))) (n : ℕ)
-    (due : end_of (burst_sent begun.start hits (command_words begun.entry.item.kind)) + suc k + n
-    ≡ due_after answering.terminal (end_of (burst_sent begun.start hits (command_words begun.entry.item.kind))))
-    (prompt : suc k + n ≤ no_response)
-    (stays : NoneTakes k plan loads outside place (length (ticks ++ before.shown)) (length (ticks ++ before.shown) + n)) where
+    (has_items (course_after k answering (starts plan answering) loads outside before.shown).left)).duty ≡ owes words false) where
   abbrev c : Channel
   c = begun.state.channel
 
@@ -86,28 +83,6 @@ module _ (k : ℕ) (plan : PlanData) (loads : List TimedLoad) (outside : List Ou
 
   over-rests : (d : Channel) (past : List Sample) → runs k past ≡ false → runs k (on_channel d ticks ++ past) ≡ false
   over-rests = rests-over k plan loads outside absent before place holder begun hits ticks sent silent long settled over
-
-  -- ---- the station in control
-
-  abbrev course : Course
-  course = course_after k holder (starts plan holder) loads outside mid.shown
-
-  waits : Waits k begun course mid.shown e
-  waits = mid-waits k plan loads outside absent before place holder begun hits ticks sent silent long settled over shape expects
-
-  still-waits : (m : ℕ) → m ≤ n → NothingStarts k course mid.shown m
-  still-waits m few = waits-on k begun course mid.shown e m waits (omega (arith, mid-long, few, prompt))
-
-  waiting : IsWaiting k begun (course_after k holder (starts plan holder) loads outside (quiet_pairs n ++ mid.shown)) (quiet_pairs n ++ mid.shown) e
-  waiting =
-      let same = same-course k holder (starts plan holder) loads outside mid.shown waits.holds waits.before n (still-waits n (omega arith)) in
-      let count : length (quiet_pairs n ++ mid.shown) ≡ n + length mid.shown = pairs-long n mid.shown in
-      record {
-        holds = ap (λ (d : Course). d.holds) same ∙ waits.holds;
-        before = λ tick late. ap (λ (d : Course). yielded_in tick d.ended) same ∙ waits.before tick (omega (arith, late, count));
-        answered = record { runs = ap (λ (d : Course). d.runs) same ∙ waits.runs; prompt = omega (arith, count, mid-long, prompt); kept = kept };
-        awaits = subst (λ xs. AwaitsFirst k begun xs e) (sym (on-quiet c n mid.shown)) (awaits-quiet k begun n (on_channel c mid.shown) e waits.awaits);
-      }
 
   -- ---- the one that is to answer
 
@@ -156,109 +131,95 @@ module _ (k : ℕ) (plan : PlanData) (loads : List TimedLoad) (outside : List Ou
       ∙ heeded-later k (on_channel (other_of c) ticks) (heard_on (other_of c) first.ticks)
       (mark_on (standing_after k t loads first).sent (other_of c)) (own.free.heeds (other_of c))
 
-  promised-not : promised_on k s s.channel ≡ true → ⊥
-  promised-not made =
-      true≢false (sym made ∙ three-first (is_promise s.duty) (same_channel s.channel s.channel) (not (superseded k s)) (ap is_promise mid-duty))
-
-  owing-rests : (m : ℕ) → m ≤ n → StationRests k answering (starts plan answering) loads outside mid.shown m
-  owing-rests m few =
-      let count : length hearing.ticks ≡ length mid.shown = hearing-long k answering (starts plan answering) loads outside mid.shown in
-      let at : due_after t s.end ≡ due_after t e = ap (λ (u : Standing). due_after t u.end) mid-stands in
-      record {
-        controller = record {
-          waits = λ other is. absurd (none-some other (sym (ap (λ (d : Course). d.runs) heard.course ∙ own.serves.idle) ∙ is));
-          starts = λ idle holds entry later left.
-              absurd (true≢false (sym holds ∙ ap (λ (d : Course). d.holds) heard.course ∙ own.serves.serves));
-        };
-        terminal = record {
-          rests_a = mid-rests A;
-          rests_b = mid-rests B;
-          answer = λ owing. inl (omega (arith, count, mid-long, few, at, due));
-          promise = λ made. absurd (promised-not made);
-        };
-        serves = λ tick low high. stays answerer answering there apart tick low (omega (arith, high, few));
-      }
-
-  answers : IsAnswering k answering (starts plan answering) loads outside (quiet_pairs n ++ mid.shown) c words
-  answers =
-      let rests = owing-rests n (omega arith) in
-      let so = still-so-far k answering (starts plan answering) loads outside mid.shown n rests in
-      let same = still-after k answering (starts plan answering) loads outside mid.shown n rests in
-      let stands = still-terminal k answering (starts plan answering) loads outside mid.shown n rests in
-      let later = ap (λ (b : StationSoFar). b.hearing) so.2 in
-      let count : length hearing.ticks ≡ length mid.shown = hearing-long k answering (starts plan answering) loads outside mid.shown in
-      let all : length (hearing_after k answering (starts plan answering) loads outside (quiet_pairs n ++ mid.shown)).ticks
-      ≡ length (quiet_pairs n ++ mid.shown) =
-      hearing-long k answering (starts plan answering) loads outside (quiet_pairs n ++ mid.shown) in
-      let ticked : length (quiet_pairs n ++ mid.shown) ≡ n + length mid.shown = pairs-long n mid.shown in
-      let at : length (quiet_moments so.0 ++ hearing.ticks) ≡ due_after t e =
-      sym (ap (λ (h : Hearing). length h.ticks) later) ∙ all ∙ ticked ∙ omega (arith, mid-long, due) in
-      let begins = heard.due order last so.0 at (ap is_owed owed) in
-      record {
-        serves = record {
-          serves = ap (λ (d : Course). d.holds) same ∙ ap (λ (d : Course). d.holds) heard.course ∙ own.serves.serves;
-          idle = ap (λ (d : Course). d.runs) same ∙ ap (λ (d : Course). d.runs) heard.course ∙ own.serves.idle;
-        };
-        begins = subst (λ h. BeginsAnswer k t (standing_after k t loads h) c h.ticks) (sym later) begins.0;
-        duty = ap (λ (u : Standing). u.duty) stands ∙ mid-duty;
-        first = ap (λ (h : Hearing). (standing_after k t loads h).part) later ∙ begins.2;
-        rests = λ d. ap (λ (h : Hearing). runs k (heard_on d h.ticks)) later
-            ∙ ap (runs k) (heard-quiet d so.0 hearing.ticks) ∙ rests-quiet k (length so.0) (heard_on d hearing.ticks) (mid-rests d);
-        heeds = ap (λ (u : Standing). ignored_from k (heard_on (other_of c)
-            (hearing_after k answering (starts plan answering) loads outside (quiet_pairs n ++ mid.shown)).ticks) (mark_on u.sent (other_of c))) stands
-            ∙ ap (λ (h : Hearing). ignored_from k (heard_on (other_of c) h.ticks) (mark_on s.sent (other_of c))) later
-            ∙ ap (λ xs. ignored_from k xs (mark_on s.sent (other_of c))) (heard-quiet (other_of c) so.0 hearing.ticks)
-            ∙ heeded-later k (quiet_ticks (length so.0)) (heard_on (other_of c) hearing.ticks) (mark_on s.sent (other_of c)) mid-heeds;
-      }
-
-  -- ---- the others, and the world
-
-  spent : (d : Channel) (station : ℕ) → IsSpent plan.faults d mid.driven station
-  spent = mid-spent k plan loads outside absent before place holder begun hits ticks sent silent long settled over
-
-  mid-serving : (other : ℕ) (station : StationData) → slice_get plan.stations other ≡ Some station → other ≢ place → other ≢ answerer →
-      is_present absent station ≡ true → IsServing k station (starts plan station) loads outside mid.shown
-  mid-serving other station here away aside is =
-      serving-again k loads outside before.shown ticks c burst over-rests station (starts plan station) (settled.others other station here away is)
-      (over.others other station here away is) (nothing other station here away aside is)
-
-  all-silent : (m : ℕ) → m < n → (station : ℕ) → station_drive station (drives_after k plan loads outside absent (quiet_pairs m ++ mid.shown)) ≡ Silent
-  all-silent m few station = elim (cases_eq station place) [
-    | inl same ↦ ap (λ i. station_drive i (drives_after k plan loads outside absent (quiet_pairs m ++ mid.shown))) same
-        ∙ ap drive_or (place-drives k plan loads outside absent (quiet_pairs m ++ mid.shown) place holder Silent settled.there settled.present
-        (holder-silent k holder (starts plan holder) loads outside mid.shown waits.holds waits.before m (still-waits (suc m) few)))
-    | inr away ↦ elim (cases_eq station answerer) [
-      | inl same ↦ ap (λ i. station_drive i (drives_after k plan loads outside absent (quiet_pairs m ++ mid.shown))) same
-          ∙ ap drive_or (place-drives k plan loads outside absent (quiet_pairs m ++ mid.shown) answerer answering Silent there present
-          (still-quiet k answering (starts plan answering) loads outside mid.shown m (owing-rests (suc m) few)))
-      | inr aside ↦ place-silent k plan loads outside absent (quiet_pairs m ++ mid.shown) station (λ other here is.
-          serving-quiet k other (starts plan other) loads outside mid.shown (mid-serving station other here away aside is) m
-          (λ tick low high. stays station other here away tick low (omega (arith, high, few))))
-    ]
-  ]
-
-  pub comes-due : (pause : List (List Drive)) → ((d : Channel) → LeftAlone plan.faults d mid.driven pause) →
-      AnswerDue k plan loads outside absent record { shown = quiet_pairs n ++ mid.shown; driven = pause ++ mid.driven } place holder begun e answerer
-      answering words
-  comes-due pause left = record {
-    rests = λ d. ap (runs k) (on-quiet d n mid.shown)
-        ∙ rests-quiet k n (on_channel d mid.shown)
-        (both-rest k plan loads outside absent before place holder begun hits ticks sent silent long settled over d);
-    undriven = undriven-still k plan loads outside absent mid n spent all-silent pause left
-        (mid-undriven k plan loads outside absent before place holder begun hits ticks sent silent long settled over);
-    spent = λ d station. left-spent plan.faults d mid.driven pause (left d) station;
-    there = settled.there;
-    present = settled.present;
-    waits = waiting;
-    apart = apart;
-    there_too = there;
-    present_too = present;
-    answers = answers;
-    others = λ other station here away aside is.
-        serving-still k station (starts plan station) loads outside mid.shown (mid-serving other station here away aside is) n (stays other station here away);
+  mid-owes : OwesAnswer k answering (starts plan answering) loads outside mid.shown c First words e
+  mid-owes = record {
+    serves = record {
+      serves = ap (λ (d : Course). d.holds) heard.course ∙ own.serves.serves;
+      idle = ap (λ (d : Course). d.runs) heard.course ∙ own.serves.idle;
+    };
+    duty = mid-duty;
+    end = ap (λ (u : Standing). u.end) mid-stands;
+    rests = mid-rests;
+    heeds = mid-heeds;
+    due = λ mays at. let d = heard.due order last mays at (ap is_owed owed) in (d.0, d.2);
   }
 
-  pub pauses-then : (pause : List (List Drive))
-      × ((ticks_on k plan loads outside absent mid n ≡ record { shown = quiet_pairs n ++ mid.shown; driven = pause ++ mid.driven })
-      × ((d : Channel) → LeftAlone plan.faults d mid.driven pause))
-  pauses-then = paused k plan loads outside absent mid n spent all-silent n (omega arith)
+  -- ---- all of them
+
+  pub mid-awaited : Awaited k plan loads outside absent mid place holder begun First answerer answering words e
+  mid-awaited =
+      let w = mid-waits k plan loads outside absent before place holder begun hits ticks sent silent long settled over shape expects in record {
+        rests = both-rest k plan loads outside absent before place holder begun hits ticks sent silent long settled over;
+        undriven = mid-undriven k plan loads outside absent before place holder begun hits ticks sent silent long settled over;
+        spent = mid-spent k plan loads outside absent before place holder begun hits ticks sent silent long settled over;
+        there = settled.there;
+        present = settled.present;
+        waits = record { holds = w.holds; runs = w.runs; before = w.before; kept = kept; awaits = inl w.awaits };
+        apart = apart;
+        there_too = there;
+        present_too = present;
+        owes = mid-owes;
+      }
+
+  -- ---- where the others are free
+
+  module _ (nothing : LeavesNothing k plan loads outside absent before.shown place answerer begun.state.channel burst) (n : ℕ)
+      (due : e + suc k + n ≡ due_after answering.terminal e) (prompt : suc k + n ≤ no_response)
+      (stays : NoneTakes k plan loads outside place (length (ticks ++ before.shown)) (length (ticks ++ before.shown) + n)) where
+    mid-serving : (other : ℕ) (station : StationData) → slice_get plan.stations other ≡ Some station → other ≢ place → other ≢ answerer →
+        is_present absent station ≡ true → IsServing k station (starts plan station) loads outside mid.shown
+    mid-serving other station here away aside is =
+        serving-again k loads outside before.shown ticks c burst over-rests station (starts plan station) (settled.others other station here away is)
+        (over.others other station here away is) (nothing other station here away aside is)
+
+    others-quiet : (m : ℕ) → m < n → (other : ℕ) (station : StationData) → slice_get plan.stations other ≡ Some station → other ≢ place →
+        other ≢ answerer → is_present absent station ≡ true → drives_next k station (starts plan station) loads outside (quiet_pairs m ++ mid.shown) ≡ Silent
+    others-quiet m few other station here away aside is =
+        serving-quiet k station (starts plan station) loads outside mid.shown (mid-serving other station here away aside is) m
+        (λ tick low high. stays other station here away tick low (omega (arith, high, few)))
+
+    due-mid : length mid.shown + n ≡ due_after answering.terminal e
+    due-mid = ap (λ m. m + n) mid-long ∙ due
+
+    prompt-mid : length mid.shown + n ≤ e + no_response
+    prompt-mid = omega (arith, mid-long, prompt)
+
+    pub pauses-then : (pause : List (List Drive))
+        × ((ticks_on k plan loads outside absent mid n ≡ record { shown = quiet_pairs n ++ mid.shown; driven = pause ++ mid.driven })
+        × ((d : Channel) → LeftAlone plan.faults d mid.driven pause))
+    pauses-then =
+        pauses k plan loads outside absent mid place holder begun First answerer answering words e mid-awaited n due-mid prompt-mid others-quiet stays
+
+    pub comes-due : (pause : List (List Drive)) → ((d : Channel) → LeftAlone plan.faults d mid.driven pause) →
+        AnswerDue k plan loads outside absent record { shown = quiet_pairs n ++ mid.shown; driven = pause ++ mid.driven } place holder begun e answerer
+        answering words
+    comes-due pause left =
+        let h = holding-then k plan loads outside absent mid place holder begun First answerer answering words e mid-awaited n due-mid prompt-mid
+        others-quiet stays in
+        let r = replies-then k plan loads outside absent mid place holder begun First answerer answering words e mid-awaited n due-mid prompt-mid
+        others-quiet stays in
+        let w = mid-waits k plan loads outside absent before place holder begun hits ticks sent silent long settled over shape expects in
+        let count : length (quiet_pairs n ++ mid.shown) ≡ n + length mid.shown = pairs-long n mid.shown in
+        record {
+          rests = rests-then k plan loads outside absent mid place holder begun First answerer answering words e mid-awaited n due-mid prompt-mid
+              others-quiet stays pause left;
+          undriven = undriven-then k plan loads outside absent mid place holder begun First answerer answering words e mid-awaited n due-mid prompt-mid
+              others-quiet stays pause left;
+          spent = spent-then k plan loads outside absent mid place holder begun First answerer answering words e mid-awaited n due-mid prompt-mid
+              others-quiet stays pause left;
+          there = settled.there;
+          present = settled.present;
+          waits = record {
+            holds = h.holds;
+            before = h.before;
+            answered = record { runs = h.runs; prompt = omega (arith, count, prompt-mid); kept = kept };
+            awaits = subst (λ xs. AwaitsFirst k begun xs e) (sym (on-quiet c n mid.shown)) (awaits-quiet k begun n (on_channel c mid.shown) e w.awaits);
+          };
+          apart = apart;
+          there_too = there;
+          present_too = present;
+          answers = record { serves = r.serves; begins = r.begins; duty = r.duty; first = r.part_is; rests = r.rests; heeds = r.heeds };
+          others = λ other station here away aside is.
+              serving-still k station (starts plan station) loads outside mid.shown (mid-serving other station here away aside is) n
+              (stays other station here away);
+        }

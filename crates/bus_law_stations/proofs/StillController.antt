@@ -93,7 +93,7 @@ second-stays k begun past e w = record {
 abbrev pub Awaits : ℕ → Begun → List Sample → ℕ → Type 0
 Awaits k begun past e = AwaitsFirst k begun past e ⊎ AwaitsSecond k begun past e
 
-awaits-stays : (k : ℕ) (begun : Begun) (past : List Sample) (e : ℕ) → Awaits k begun past e → Awaits k begun (Quiet ∷ past) e
+pub awaits-stays : (k : ℕ) (begun : Begun) (past : List Sample) (e : ℕ) → Awaits k begun past e → Awaits k begun (Quiet ∷ past) e
 awaits-stays k begun past e (inl w) = inl (first-stays k begun past e w)
 awaits-stays k begun past e (inr w) = inr (second-stays k begun past e w)
 
