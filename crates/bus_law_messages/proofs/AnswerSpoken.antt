@@ -32,6 +32,7 @@ use Rattle.bus_law_line.proofs.Sent.{left-spent}
 use Rattle.bus_law_messages.specs.Settled.{IsServing, Settled, NoneTakes}
 use Rattle.bus_law_messages.specs.Commands.{LeavesWhole, WordsEnd}
 use Rattle.bus_law_messages.specs.Ends.{burst_sent}
+use Rattle.bus_law_messages.specs.Relays.{reply_sender}
 use Rattle.bus_law_messages.specs.Promises.{Listens, HeardBurst, IsReplying}
 use Rattle.bus_law_messages.specs.AnswerRead.{AnswerRead}
 use Rattle.bus_law_messages.proofs.Listening.{serving-silent}
@@ -58,10 +59,6 @@ pub record Speaking (k : ℕ) (plan : PlanData) (loads : List TimedLoad) (outsid
   pub answers : IsReplying k answering (starts plan answering) loads outside before.shown c part words
   pub others : (other : ℕ) (station : StationData) → slice_get plan.stations other ≡ Some station → other ≢ place → other ≢ answerer →
       is_present absent station ≡ true → Listens k station (starts plan station) loads outside before.shown c
-
--- the station at a place as it sends an answer
-abbrev pub reply_sender : ℕ → Channel → Part → List Word → Sender
-reply_sender place c part words = record { station = place; channel = c; part = part; words = words }
 
 -- what the end of the answer leaves: x is the newest of its ticks
 pub record Spoken (k : ℕ) (plan : PlanData) (loads : List TimedLoad) (outside : List OutsideTake) (absent : List ℕ) (before : Trace) (place t : ℕ)

@@ -32,3 +32,4 @@ pub mod AnswerSpoken
 pub mod ListensOn
 pub mod OwesOn
 pub mod PauseToReply
+pub mod Settling

@@ -102,3 +102,7 @@ module _ (k : ℕ) (station : StationData) (starts : Bool) (loads : List TimedLo
             (subst (λ u. IsListening k t u c (quiet_moments so.0 ++ hearing.ticks)) (sym stands)
             (listens-later k t s c hearing.ticks so.0 listening.listens (λ made. let long = lasts made in omega (arith, long, count))));
       }
+
+  pub listens-stands : (n : ℕ) → Lasts n → Stays n →
+      standing_after k t loads (hearing_after k station starts loads outside (quiet_pairs n ++ past)) ≡ s
+  listens-stands n lasts stays = still-terminal k station starts loads outside past n (rests-for n lasts stays)

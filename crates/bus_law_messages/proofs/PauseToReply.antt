@@ -30,6 +30,7 @@ use Rattle.bus_law_stations.proofs.Resting.{quiet-on, rests-quiet}
 use Rattle.bus_law_stations.proofs.StillController.{Awaits, awaits-stays, pairs-long}
 use Rattle.bus_law_messages.specs.Settled.{NoneTakes}
 use Rattle.bus_law_messages.specs.Promises.{Listens, IsReplying}
+use Rattle.bus_law_messages.specs.Relays.{ReplyDue}
 use Rattle.bus_law_messages.proofs.Sending.{place-silent, place-drives}
 use Rattle.bus_law_messages.proofs.Pausing.{on-quiet, same-course, holder-silent, paused, undriven-still}
 use Rattle.bus_law_messages.proofs.OwesOn.{OwesAnswer, owing-silent, replies}
@@ -138,20 +139,54 @@ module _ (k : ℕ) (plan : PlanData) (loads : List TimedLoad) (outside : List Ou
     spent-then d station = left-spent plan.faults d mid.driven pause (left d) station
 
     -- the answer begins
-    pub speaking-then : ((other : ℕ) (station : StationData) → slice_get plan.stations other ≡ Some station → other ≢ place → other ≢ answerer →
+    pub due-then : ((other : ℕ) (station : StationData) → slice_get plan.stations other ≡ Some station → other ≢ place → other ≢ answerer →
         is_present absent station ≡ true → Listens k station (starts plan station) loads outside (quiet_pairs n ++ mid.shown) c) →
-        Speaking k plan loads outside absent record { shown = quiet_pairs n ++ mid.shown; driven = pause ++ mid.driven } place holder c part answerer
+        ReplyDue k plan loads outside absent record { shown = quiet_pairs n ++ mid.shown; driven = pause ++ mid.driven } place holder begun part e answerer
         answering words
-    speaking-then others = record {
+    due-then others = record {
       rests = rests-then;
       undriven = undriven-then;
       spent = spent-then;
       there = a.there;
       present = a.present;
-      silent = waiting-silent k holder (starts plan holder) loads outside (quiet_pairs n ++ mid.shown) begun e holding-then prompt-then (rests-then c);
+      holds = holding-then.holds;
+      runs = holding-then.runs;
+      before = holding-then.before;
+      kept = a.waits.kept;
+      prompt = prompt-then;
       apart = a.apart;
       there_too = a.there_too;
       present_too = a.present_too;
       answers = replies-then;
       others = others;
     }
+
+-- a station in control, and the one that answers, while the others listen
+pub reply-holding : (k : ℕ) (plan : PlanData) (loads : List TimedLoad) (outside : List OutsideTake) (absent : List ℕ) (before : Trace) (place : ℕ)
+    (holder : StationData) (begun : Begun) (part : Part) (e answerer : ℕ) (answering : StationData) (words : List Word) →
+    ReplyDue k plan loads outside absent before place holder begun part e answerer answering words →
+    Awaits k begun (on_channel begun.state.channel before.shown) e →
+    Holding k begun (course_after k holder (starts plan holder) loads outside before.shown) before.shown e
+reply-holding k plan loads outside absent before place holder begun part e answerer answering words due awaits =
+    record { holds = due.holds; runs = due.runs; before = due.before; kept = due.kept; awaits = awaits }
+
+pub reply-speaks : (k : ℕ) (plan : PlanData) (loads : List TimedLoad) (outside : List OutsideTake) (absent : List ℕ) (before : Trace) (place : ℕ)
+    (holder : StationData) (begun : Begun) (part : Part) (e answerer : ℕ) (answering : StationData) (words : List Word) →
+    ReplyDue k plan loads outside absent before place holder begun part e answerer answering words →
+    Awaits k begun (on_channel begun.state.channel before.shown) e →
+    Speaking k plan loads outside absent before place holder begun.state.channel part answerer answering words
+reply-speaks k plan loads outside absent before place holder begun part e answerer answering words due awaits = record {
+  rests = due.rests;
+  undriven = due.undriven;
+  spent = due.spent;
+  there = due.there;
+  present = due.present;
+  silent = waiting-silent k holder (starts plan holder) loads outside before.shown begun e
+      (reply-holding k plan loads outside absent before place holder begun part e answerer answering words due awaits) due.prompt
+      (due.rests begun.state.channel);
+  apart = due.apart;
+  there_too = due.there_too;
+  present_too = due.present_too;
+  answers = due.answers;
+  others = due.others;
+}

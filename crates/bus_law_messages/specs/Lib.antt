@@ -6,3 +6,4 @@ pub mod Addressed
 pub mod FirstPath
 pub mod AnswerRead
 pub mod Promises
+pub mod Relays

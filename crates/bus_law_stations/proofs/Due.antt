@@ -101,7 +101,7 @@ answer-as k t loads memory c later u both = (
 )
 
 -- marks of earlier ticks don't supersede it
-not-from : (tick : ℕ) (o : Option ℕ) → ((m : ℕ) → o ≡ Some m → m < tick) → is_from tick o ≡ false
+pub not-from : (tick : ℕ) (o : Option ℕ) → ((m : ℕ) → o ≡ Some m → m < tick) → is_from tick o ≡ false
 not-from tick None before = refl
 not-from tick (Some m) before = lt-leb tick m (before m refl)
 
