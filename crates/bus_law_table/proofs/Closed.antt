@@ -38,7 +38,8 @@ own-closed holder begun e p is =
 abbrev station_with : StationData → Course → Memory → Present
 station_with station c memory = record { plan = station; memory = memory; left = c.left; live = c.live; serves = not c.holds }
 
-pub own-told : (holder : StationData) (begun : Begun) (e : Ended) (c d : Course) (tick now : ℕ) (loads : List TimedLoad) (before after memory : Memory) (y : Present) →
+pub own-told : (holder : StationData) (begun : Begun) (e : Ended) (c d : Course) (tick now : ℕ) (loads : List TimedLoad) (before after memory : Memory) (y :
+    Present) →
     d ≡ close c begun e tick → c.holds ≡ true → gives e.outcome ≡ false →
     station_with holder c before ≡ record y { memory = memory } →
     after ≡ with_loads holder.terminal.address now loads y.memory →

@@ -41,7 +41,8 @@ module _ (k : ℕ) (plan : PlanData) (loads : List TimedLoad) (outside : List Ou
     (begins : BeginsMessage (course_after k holder (starts plan holder) loads outside before.shown) before.shown entry)
     (stays : NoneTakes k plan loads outside place (length before.shown)
     (length before.shown + (40 * length (command_words entry.item.kind) + suc k)))
-    (fit : All (λ (word : Word). word.bits < 65536) (command_words entry.item.kind)) (stations : List Present) (are : ArePresent k plan loads outside absent before.shown stations)
+    (fit : All (λ (word : Word). word.bits < 65536) (command_words entry.item.kind)) (stations : List Present) (are : ArePresent k plan loads outside absent
+    before.shown stations)
     (x : Pair) (ticks : List Pair) (sent silent : List (List Drive)) where
   abbrev t : ℕ
   t = length before.shown

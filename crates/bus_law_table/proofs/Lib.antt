@@ -10,3 +10,15 @@ pub mod Closed
 pub mod CommandEnd
 pub mod SentTold
 pub mod SentAt
+pub mod AnsweredTable
+pub mod Still
+pub mod Quiet
+pub mod Awaited
+pub mod AnswerKept
+pub mod Answerer
+pub mod AnswerEnd
+pub mod OneOwes
+pub mod ClosedAll
+pub mod ClearTold
+pub mod ClearAt
+pub mod ClearLaw

@@ -1,5 +1,7 @@
 -- Two lists of one length, item by item.
-use Rattle.std.proofs.Common.{◌≡◌, ℕ, suc, Bool, true, false, List, [], ◌∷◌, map, Option, Some, None, refl, ap, ◌∙◌}
+use Rattle.std.proofs.Common.{◌≡◌, ◌⊎◌, inl, inr, ℕ, zero, suc, Bool, true, false, List, [], ◌∷◌, map, Option, Some, None, refl, ap, ◌∙◌}
+use Rattle.std.proofs.lemmas.Bool.{true≢false}
+use Rattle.std.proofs.lemmas.Option.{none-some, same_Some}
 use Rattle.std.specs.Prelude.{filter, filter_map, slice_get}
 
 -- a fact of each item, and one of each item with the one at its place in the other list
@@ -85,3 +87,29 @@ each-filter P p (x ∷ xs) make =
 pub each-map : {X Y : Type 0} (f : X → Y) (Q : Y → Type 0) (xs : List X) → Each (λ x. Q (f x)) xs → Each Q (map f xs)
 each-map f Q [] each = tt
 each-map f Q (x ∷ xs) each = (each.0, each-map f Q xs each.1)
+
+-- ---- an item of a list
+
+abbrev pub Has : {X : Type 0} → (X → Type 0) → List X → Type 0
+Has P [] = ⊥
+Has P (x ∷ xs) = P x ⊎ Has P xs
+
+has-one : {X : Type 0} (P : X → Type 0) (p : X → Bool) (x : X) (xs : List X) (b : Bool) → p x ≡ b → (b ≡ true → P x ⊎ Has P (filter p xs)) →
+    (b ≡ false → Has P (filter p xs)) → Has P (filter p (x ∷ xs))
+has-one P p x xs true is passes fails = rw is (passes refl)
+has-one P p x xs false is passes fails = rw is (fails refl)
+
+-- an item that passes a test is among those that do
+pub has-filter : {X : Type 0} (p : X → Bool) (xs : List X) (i : ℕ) (x : X) → slice_get xs i ≡ Some x → p x ≡ true → Has (λ y. y ≡ x) (filter p xs)
+has-filter p [] i x there passes = absurd (none-some x there)
+has-filter p (y ∷ ys) zero x there passes =
+    let same : y ≡ x = same_Some y x there in
+    has-one (λ z. z ≡ x) p y ys true (ap p same ∙ passes) (λ on. inl same) (λ off. absurd (true≢false off))
+has-filter p (y ∷ ys) (suc i) x there passes =
+    let later = has-filter p ys i x there passes in has-one (λ z. z ≡ x) p y ys (p y) refl (λ on. inr later) (λ off. later)
+
+pub beside-so : {X Y : Type 0} (R S : X → Y → Type 0) (xs : List X) (ys : List Y) → ((x : X) (y : Y) → R x y → S x y) → Beside R xs ys → Beside S xs ys
+beside-so R S [] [] tell pairs = tt
+beside-so R S [] (y ∷ ys) tell pairs = absurd pairs
+beside-so R S (x ∷ xs) [] tell pairs = absurd pairs
+beside-so R S (x ∷ xs) (y ∷ ys) tell pairs = (tell x y pairs.0, beside-so R S xs ys tell pairs.1)

@@ -161,16 +161,19 @@ module _ (k : ℕ) (plan : PlanData) (loads : List TimedLoad) (outside : List Ou
           (command-told k plan loads outside absent before place holder entry small settled unheard begins stays fit stations are x ticks sent silent over)
           owes-none) in
           let is : message k loads plan.faults attempt entry.item None begun.state.channel t stations ≡ m =
-          message-unanswered k loads plan.faults attempt entry.item strikes begun.state.channel t stations none (none-owes command (map ac stations) free-all) in
+          message-unanswered k loads plan.faults attempt entry.item strikes begun.state.channel t stations none (none-owes command (map ac stations)
+          free-all) in
           subst (MessageTold k plan loads outside absent before record { shown = x ∷ (ticks ++ past); driven = silent ++ (sent ++ before.driven) } place holder
           begun) (sym is) record {
             ends = ap suc
                 (ends-now k plan loads outside absent before place holder entry small settled unheard begins stays fit stations are x ticks sent silent over);
             closes = closes;
             stations = stations-then;
-            blocks = command-blocks k plan loads outside absent before place holder entry small settled unheard begins stays fit stations are x ticks sent silent
+            blocks = command-blocks k plan loads outside absent before place holder entry small settled unheard begins stays fit stations are x ticks sent
+                silent
                 over;
-            bursts = command-bursts k plan loads outside absent before place holder entry small settled unheard begins stays fit stations are x ticks sent silent
+            bursts = command-bursts k plan loads outside absent before place holder entry small settled unheard begins stays fit stations are x ticks sent
+                silent
                 over;
             settled = again;
             unheard = kept-here;
