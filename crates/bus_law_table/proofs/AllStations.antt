@@ -69,7 +69,7 @@ module _ (k : ℕ) (plan : PlanData) (loads : List TimedLoad) (outside : List Ou
         | inl same ↦ ap (took_in k plan loads outside absent (x ∷ (ticks ++ past)) (length (ticks ++ past))) same
             ∙ took-none holder (x ∷ (ticks ++ past)) (length (ticks ++ past)) (unheard-takes k holder (starts plan holder) loads outside x (ticks ++ past)
             (unheard-on k holder (starts plan holder) loads outside past (x ∷ ticks) unheard controls))
-        | inr other ↦ took-none st (x ∷ (ticks ++ past)) (length (ticks ++ past)) (serving-takes k st (starts plan st) loads outside past c small
+        | inr other ↦ took-none st (x ∷ (ticks ++ past)) (length (ticks ++ past)) (serving-takes k st (starts plan st) loads outside past c
             (others other.0 st other.1 other.2 other.3) x ticks leg quiet (stays other.0 st other.1 other.2))
       ]) in
       ap (λ bs. blocks_found k plan loads outside absent (ticks ++ past) ++ bs) nothing

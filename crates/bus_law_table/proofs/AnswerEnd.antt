@@ -156,7 +156,7 @@ module _ (k : ℕ) (plan : PlanData) (loads : List TimedLoad) (outside : List Ou
             (is-answering other.0 st other.1 same)
             ∙ answerer-takes k answering (starts plan answering) loads outside past c words due.answers y ms runs
             (stays-for answerer answering due.there_too due.apart (suc (length ms)) (omega (arith, few)))
-        | inr aside ↦ serving-takes k st (starts plan st) loads outside past c small (due.others other.0 st other.1 other.2 aside other.3) y ms runs.0 runs.1
+        | inr aside ↦ serving-takes k st (starts plan st) loads outside past c (due.others other.0 st other.1 other.2 aside other.3) y ms runs.0 runs.1
             (stays-for other.0 st other.1 other.2 (suc (length ms)) (omega (arith, few)))
       ]
     ],

@@ -14,33 +14,24 @@ use Rattle.bus_model.specs.Memory.{TimedLoad}
 use Rattle.bus_model.specs.Orders.{owes}
 use Rattle.bus_model.specs.Hearing.{Moment, Hearing, heard_on}
 use Rattle.bus_model.specs.Standing.{Standing, mark_on, ignored_from, is_promise}
-use Rattle.bus_model.specs.Terminal.{running_out, order_of, order_on, order_now, taken_by, took_now, standing, standing_after, accepted_by, accepted_now}
+use Rattle.bus_model.specs.Terminal.{order_on, order_now, taken_by, took_now, standing, standing_after, accepted_by, accepted_now}
 use Rattle.bus_model.specs.Course.{Course}
 use Rattle.bus_model.specs.Control.{OutsideTake, StationSoFar, moment_of, course_after, hearing_after, outside_takes}
 use Rattle.bus_law_stations.specs.Legs.{HearsBurst, with_sent}
 use Rattle.bus_law_stations.specs.Turns.{moments_of, TakesNothing}
 use Rattle.bus_law_stations.proofs.LegTicks.{heard-append, leg-endless, leg-ends-not}
-use Rattle.bus_law_stations.proofs.Ready.{either-none, orders-none}
+use Rattle.bus_law_stations.proofs.Ready.{orders-none}
 use Rattle.bus_law_stations.proofs.Resting.{heard-long}
 use Rattle.bus_law_stations.proofs.SenderTicks.{sender-stands, sender-ends}
 use Rattle.bus_law_stations.proofs.Turning.{serving-hears, serving-same}
 use Rattle.bus_law_stations.proofs.Unheeded.{quiet-unheeded}
 use Rattle.bus_law_messages.specs.Answers.{IsAnswering}
-use Rattle.bus_law_messages.proofs.Listening.{moments-shown, moments-many, quiet-not-ended}
+use Rattle.bus_law_table.proofs.Idle.{moments-shown, moments-many, quiet-not-ended, order-none, no-running}
 use Rattle.bus_law_messages.proofs.Running.{RunsAlone}
 
 own-sent : (s : Standing) (c : Channel) (m : Option ℕ) → mark_on (with_sent s c m).sent c ≡ m
 own-sent s A m = refl
 own-sent s B m = refl
-
-no-running : (k : ℕ) (t : TerminalData) (s : Standing) (past : List Moment) → is_promise s.duty ≡ false → running_out k t past s ≡ None
-no-running k t s past none = rw none refl
-
--- where no burst ends on a channel nothing is ordered there
-order-none : (k : ℕ) (t : TerminalData) (s : Standing) (d : Channel) (now : Moment) (past : List Moment) → ended_now k (heard_on d (now ∷ past)) ≡ None →
-    order_on k t (now ∷ past) s d ≡ None
-order-none k t s d now past none =
-    either-none (ignored_from k (heard_on d past) (mark_on s.sent d)) (order_of k t s d (ended_now k (heard_on d (now ∷ past)))) (ap (order_of k t s d) none)
 
 module _ (k : ℕ) (station : StationData) (starts : Bool) (loads : List TimedLoad) (outside : List OutsideTake) (past : List Pair) (c : Channel)
     (words : List Word) (answers : IsAnswering k station starts loads outside past c words) where

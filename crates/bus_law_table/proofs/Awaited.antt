@@ -36,7 +36,7 @@ use Rattle.bus_law_stations.proofs.Ready.{three-first}
 use Rattle.bus_law_messages.specs.Settled.{IsServing, Settled, NoneTakes}
 use Rattle.bus_law_messages.specs.Ends.{burst_sent, HeardCommand, CommandOver}
 use Rattle.bus_law_messages.specs.Answers.{LeavesNothing}
-use Rattle.bus_law_messages.proofs.Listening.{moments-shown}
+use Rattle.bus_law_table.proofs.Idle.{moments-shown}
 use Rattle.bus_law_messages.proofs.Heard.{hearing-long}
 use Rattle.bus_law_messages.proofs.Unanswered.{rests-both, serving-again}
 use Rattle.bus_law_messages.proofs.Pausing.{same-course}

@@ -3,6 +3,7 @@ pub mod Pairing
 pub mod OneStation
 pub mod Ticks
 pub mod Unstruck
+pub mod Idle
 pub mod Takes
 pub mod AllStations
 pub mod Kept

@@ -1,69 +1,59 @@
 -- A terminal takes no block in the ticks before a burst's end is known, nor while its station holds control.
 use Rattle.std.proofs.Common.{◌≡◌, ℕ, suc, ◌+◌, ◌<◌, ◌≤◌, Bool, false, List, [], ◌∷◌, ◌++◌, length, None, refl, sym, ap, ◌∙◌, arith, length-append}
 use Rattle.std.proofs.lemmas.Bool.{true≢false}
-use Rattle.bus_base.specs.Samples.{sample_on, other_of}
+use Rattle.bus_base.specs.Samples.{other_of}
 use Rattle.bus_base.specs.declared.samples.Channel.{Channel}
 use Rattle.bus_base.specs.declared.samples.Pair.{Pair}
-use Rattle.bus_line.specs.Past.{InLeg, quiet_ticks, ended_now}
+use Rattle.bus_line.specs.Past.{InLeg, quiet_ticks}
 use Rattle.bus_line.specs.Channels.{on_channel}
 use Rattle.bus_formats.specs.Plans.{TerminalData, StationData}
 use Rattle.bus_model.specs.Memory.{Memory, TimedLoad, with_loads}
-use Rattle.bus_model.specs.Hearing.{Moment, Hearing, heard_on}
+use Rattle.bus_model.specs.Hearing.{Hearing}
 use Rattle.bus_model.specs.Standing.{Standing, at_rest}
-use Rattle.bus_model.specs.Terminal.{order_of, order_now, standing, standing_after, taken_by, took_now, memory_after}
+use Rattle.bus_model.specs.Terminal.{standing, took_now, memory_after}
 use Rattle.bus_model.specs.Control.{OutsideTake, StationSoFar, unheard, unheard_ticks, moment_of, outside_takes, course_after, hearing_after, keeps}
-use Rattle.bus_law_stations.specs.Legs.{with_addressed, HearsBurst, IsReady}
 use Rattle.bus_law_stations.specs.Silence.{quiet_moments, NothingDue}
-use Rattle.bus_law_stations.specs.Turns.{moments_of, KeepsControl}
-use Rattle.bus_law_stations.proofs.LegTicks.{heard-append, leg-ends-not}
-use Rattle.bus_law_stations.proofs.Obeying.{running-marks}
-use Rattle.bus_law_stations.proofs.Ready.{orders-none, order-other, ready-heeded, order-heeded, ready-running}
+use Rattle.bus_law_stations.specs.Turns.{moments_of, TakesNothing, KeepsControl}
 use Rattle.bus_law_stations.proofs.StillTerminal.{still-stands, still-takes}
 use Rattle.bus_law_stations.proofs.Turning.{serving-hears, holding-hears}
 use Rattle.bus_law_messages.specs.Settled.{IsServing}
-use Rattle.bus_law_messages.proofs.Listening.{free-ready, free-hears, serving-nothing, shown-leg, shown-quiet}
 use Rattle.bus_law_table.specs.Stations.{HeardNothing}
+use Rattle.bus_law_table.proofs.Idle.{NoneEnds, leg-none-ends, tick-accepts, idle-takes}
 use Rattle.bus_law_table.proofs.Loads.{loaded-alike}
 
 -- ---- while a burst runs
 
-leg-takes : (k : ℕ) (t : TerminalData) (loads : List TimedLoad) (memory : Memory) (c : Channel) (heard ticks : List Moment) (now : Moment) → k < 40 →
-    IsReady k t (standing k t loads memory heard) c heard → HearsBurst k t (standing k t loads memory heard) c heard (now ∷ ticks) →
-    took_now k t loads record { memory = memory; ticks = now ∷ (ticks ++ heard) } ≡ None
-leg-takes k t loads memory c heard ticks now small ready hears =
-    let s = standing k t loads memory heard in
-    let past = ticks ++ heard in
-    let m = running-marks k t loads memory c heard ticks small ready record { rests = hears.rests; leg = hears.leg.2; beside = hears.beside.1 } in
-    let u = with_addressed s c m.0 in
-    let ends : ended_now k (heard_on c (now ∷ (ticks ++ heard))) ≡ None =
-    ap (ended_now k) (heard-append c (now ∷ ticks) heard) ∙ leg-ends-not k (sample_on now.shown c) (heard_on c ticks) (heard_on c heard) hears.leg in
-    ap (λ (v : Standing). taken_by k t loads (length past) now.may v (order_now k t (now ∷ past) v)) m.1
-    ∙ ap (taken_by k t loads (length past) now.may u)
-    (orders-none k t u c (now ∷ past)
-    (order-heeded k t s c m.0 now past (ready-heeded k t s c heard ticks ready) ∙ ap (order_of k t u c) ends)
-    (order-other k t s c m.0 now past (λ promise. (ready.promise promise).0) hears.beside.0)
-    (ready-running k t s c m.0 now heard ticks ready hears.leg))
-
 module _ (k : ℕ) (station : StationData) (starts : Bool) (loads : List TimedLoad) (outside : List OutsideTake) (past : List Pair) where
-  pub serving-takes : (c : Channel) → k < 40 → IsServing k station starts loads outside past → (x : Pair) (ticks : List Pair) →
+  -- control isn't taken while no burst ends
+  idle-nothing : (ticks : List Pair) →
+      NoneEnds k (hearing_after k station starts loads outside past).ticks (moments_of (course_after k station starts loads outside past) ticks) →
+      ((tick : ℕ) → length past ≤ tick → tick < length past + length ticks → outside_takes k station starts loads outside tick outside ≡ []) →
+      TakesNothing k station starts loads outside past ticks
+  idle-nothing [] none stays = tt
+  idle-nothing (x ∷ ticks) none stays =
+      let hearing = hearing_after k station starts loads outside past in
+      let course = course_after k station starts loads outside past in
+      let long : length (ticks ++ past) ≡ length ticks + length past = length-append ticks past in (
+        tick-accepts k station.terminal loads hearing.memory (moment_of x course) (moments_of course ticks ++ hearing.ticks) none.0,
+        stays (length (ticks ++ past)) (omega (arith, long)) (omega (arith, long)),
+        idle-nothing ticks none.1 (λ tick low high. stays tick low (omega (arith, high))),
+      )
+
+  pub serving-takes : (c : Channel) → IsServing k station starts loads outside past → (x : Pair) (ticks : List Pair) →
       InLeg k (on_channel c (x ∷ ticks)) → on_channel (other_of c) (x ∷ ticks) ≡ quiet_ticks (length (x ∷ ticks)) →
       ((tick : ℕ) → length past ≤ tick → tick < length past + length (x ∷ ticks) → outside_takes k station starts loads outside tick outside ≡ []) →
       took_now k station.terminal loads (hearing_after k station starts loads outside ((x ∷ ticks) ++ past)) ≡ None
-  serving-takes c small serving x ticks leg quiet stays =
+  serving-takes c serving x ticks leg quiet stays =
       let t = station.terminal in
       let course = course_after k station starts loads outside past in
       let hearing = hearing_after k station starts loads outside past in
+      let none = leg-none-ends k c hearing.ticks course serving.free.rests (x ∷ ticks) leg quiet in
       let heard : hearing_after k station starts loads outside ((x ∷ ticks) ++ past)
       ≡ record { memory = hearing.memory; ticks = moment_of x course ∷ (moments_of course ticks ++ hearing.ticks) } =
       ap (λ (so : StationSoFar). so.hearing) (serving-hears k station starts loads outside past (x ∷ ticks) serving.serves
-      (serving-nothing k station starts loads outside past c small serving (x ∷ ticks) leg quiet stays)) in
-      let s = standing_after k t loads hearing in
+      (idle-nothing (x ∷ ticks) none stays)) in
       ap (took_now k t loads) heard
-      ∙ leg-takes k t loads hearing.memory c hearing.ticks (moments_of course ticks) (moment_of x course) small
-      (free-ready k t s c hearing.ticks serving.free)
-      (free-hears k t s c hearing.ticks (moments_of course (x ∷ ticks)) serving.free
-      (shown-leg k station starts loads outside past c small serving (x ∷ ticks) leg)
-      (shown-quiet k station starts loads outside past c small serving (other_of c) (x ∷ ticks) quiet))
+      ∙ idle-takes k t loads hearing.memory hearing.ticks serving.free.promise (moment_of x course) (moments_of course ticks) none
 
 -- ---- while its station holds control
 
