@@ -123,7 +123,8 @@ cut-keeps k most own now (cuts.Slot i word) ignored ear = keeps-cutter k most ow
 cut-keeps k most own now (cuts.Ended slots rest) ignored ear = (refl, refl)
 
 -- an ear that follows its cutter
-pub ear-stands : (k most own : ℕ) (ear after : Ear) (cutter : Cutter) (x : Sample) (heard : List Sample) (sent addressed sending : Option ℕ) (begins ignored : Bool) (now : ℕ) (cut : Cut) →
+pub ear-stands : (k most own : ℕ) (ear after : Ear) (cutter : Cutter) (x : Sample) (heard : List Sample) (sent addressed sending : Option ℕ)
+    (begins ignored : Bool) (now : ℕ) (cut : Cut) →
     k ≤ 39 → EarStands k most own ear heard sent addressed → length heard ≡ now → ignored ≡ is_some ear.sending → cut ≡ cut_now k (x ∷ heard) →
     CutterStands k cutter (x ∷ heard) → after ≡ after_cut k most own now cut ignored (record ear { cutter = cutter }) →
     sending ≡ still_sending k (sending_from begins after.sending) x →
@@ -135,7 +136,8 @@ ear-stands k most own ear after cutter x heard sent addressed sending begins ign
     let keeps = cut-keeps k most own now cut ignored before in
     let tells : Tells k (x ∷ heard) cut = rw is (cut-tells k (x ∷ heard)) in
     let collects : Collects cut (running_slots k heard) (running_slots k (x ∷ heard)) = rw is (cut-collects k x heard small) in
-    let marks : IsAfter most own (suc now) (after_cut k most own now cut ignored before) (running_slots k (x ∷ heard)) (addressed_by own now (slot_now k (x ∷ heard)) ignored addressed) =
+    let marks : IsAfter most own (suc now) (after_cut k most own now cut ignored before) (running_slots k (x ∷ heard))
+    (addressed_by own now (slot_now k (x ∷ heard)) ignored addressed) =
     after-any k most own before now ignored heard (x ∷ heard) addressed cut st.slots st.addressed_is (rw (← here) st.before) tells collects in
     let same_sending : after.sending ≡ ear.sending = ap (λ (e : Ear). e.sending) follows ∙ keeps.1 in
     let same_cutter : after.cutter ≡ cutter = ap (λ (e : Ear). e.cutter) follows ∙ keeps.0 in

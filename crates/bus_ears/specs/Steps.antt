@@ -50,7 +50,9 @@ is_end (cuts.Ended slots rest) = true
 
 -- the ear from which the last burst's slots were moved out
 abbrev pub without_last : Ear → Ear
-without_last ear = record ear { last = record { first = ear.last.first; end = ear.last.end; rest = ear.last.rest; command = None; slots = record { items = [] } } }
+without_last ear = record ear {
+  last = record { first = ear.last.first; end = ear.last.end; rest = ear.last.rest; command = None; slots = record { items = [] } };
+}
 
 abbrev pub sending_from : Bool → Option ℕ → Option ℕ
 sending_from begins sending = if begins then Some 0 else sending

@@ -167,8 +167,8 @@ impl Common {
     /// Hears both channels in tick `now`. The terminal's own transmission begins on a channel, or on none.
     #[inline(always)]
     pub(crate) fn listen(&mut self, now: u64, heard: Pair, begins: Option<Channel>) -> BothHeard
-        requires { (terminal : TerminalData) × (loads : List TimedLoad) × (past : List Moment) × (s : spec.Standing) × CommonStands LAG terminal loads self.old past s
-            × (length past ≡ now) × (now < 2 ^ 60) }
+        requires { (terminal : TerminalData) × (loads : List TimedLoad) × (past : List Moment) × (s : spec.Standing)
+            × CommonStands LAG terminal loads self.old past s × (length past ≡ now) × (now < 2 ^ 60) }
         ensures listened { (terminal : TerminalData) (loads : List TimedLoad) (past : List Moment) (s : spec.Standing) (moment : Moment) →
             CommonStands LAG terminal loads self.old past s → length past ≡ now → moment.shown ≡ heard → Listens LAG terminal begins past s →
             HasListened LAG terminal self.old self.new past moment s }

@@ -185,8 +185,8 @@ impl TerminalState {
     /// Hears what both channels show in the tick `now`, the number of the ticks heard before, and stays unless something is handled or it is left.
     #[inline(always)]
     pub(crate) fn listen(&mut self, now: Tick, heard: Pair) -> Step
-        requires { (terminal : TerminalData) × (loads : List TimedLoad) × (past : List Moment) × (s : Standing) × stands.StateStands LAG terminal loads self.old past s
-            × (length past ≡ now.0) × (now.0 < 2 ^ 60) }
+        requires { (terminal : TerminalData) × (loads : List TimedLoad) × (past : List Moment) × (s : Standing)
+            × stands.StateStands LAG terminal loads self.old past s × (length past ≡ now.0) × (now.0 < 2 ^ 60) }
         ensures { (terminal : TerminalData) (loads : List TimedLoad) (past : List Moment) (s : Standing) (may : Bool) →
             stands.StateStands LAG terminal loads self.old past s → length past ≡ now.0 →
             AfterStep LAG terminal loads self.new result past (record { shown = heard; may = may }) s

@@ -143,11 +143,12 @@ impl Terminal {
     }
 
     fn step(&mut self, now: Tick, heard: Pair, may_accept: bool) -> TerminalEvent
-        requires { (terminal : TerminalData) × (loads : List TimedLoad) × (past : List Moment) × (s : Standing) × StateStands LAG terminal loads self.old.state past s
-            × (length past ≡ now.0) × (now.0 < 2 ^ 60) }
+        requires { (terminal : TerminalData) × (loads : List TimedLoad) × (past : List Moment) × (s : Standing)
+            × StateStands LAG terminal loads self.old.state past s × (length past ≡ now.0) × (now.0 < 2 ^ 60) }
         ensures { (terminal : TerminalData) (loads : List TimedLoad) (past : List Moment) (s : Standing) →
             StateStands LAG terminal loads self.old.state past s →
-            length past ≡ now.0 → NextStands LAG terminal loads (record { state = self.new.state; event = result }) past (record { shown = heard; may = may_accept }) s
+            length past ≡ now.0 → NextStands LAG terminal loads (record { state = self.new.state; event = result })
+            past (record { shown = heard; may = may_accept }) s
             (accepted_on LAG terminal loads (record { shown = heard; may = may_accept }) past s) }
     {
         match self.state.listen(now, heard) {

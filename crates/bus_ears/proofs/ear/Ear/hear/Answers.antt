@@ -8,7 +8,8 @@ use Rattle.bus_ears.proofs.ear.Ear.hear.Goals as goal
 pub follow-ended-requires : goal.follow-ended-requires
 follow-ended-requires c =
     let (heard, sent, addressed, st, here, small) = c.requires in
-    rw (c.hear-cut.ensures.cut heard st.cutter, ← here) (end-fits LAG c.args.sample heard _ (omega (arith, here, small)) (cut-tells LAG (c.args.sample ∷ heard)))
+    rw (c.hear-cut.ensures.cut heard st.cutter, ← here)
+    (end-fits LAG c.args.sample heard _ (omega (arith, here, small)) (cut-tells LAG (c.args.sample ∷ heard)))
 
 pub returns-clause-stands : goal.returns-clause-stands
 returns-clause-stands c = λ heard sent addressed st here.
