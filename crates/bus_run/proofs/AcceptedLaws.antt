@@ -1,5 +1,6 @@
 -- What an accepted plan says of its stations and their objects.
-use Rattle.std.proofs.Common.{◌≡◌, ◌≢◌, ℕ, zero, suc, ◌+◌, ◌<◌, ◌≤◌, Bool, true, false, ◌==◌, if◌then◌else◌, List, [], ◌∷◌, length, map, refl, ap, sym, ◌∙◌, arith, subst, inl, inr, ◌⊎◌, Option, Some, None}
+use Rattle.std.proofs.Common.{◌≡◌, ◌≢◌, ℕ, zero, suc, ◌+◌, ◌<◌, ◌≤◌, Bool, true, false, ◌==◌, if◌then◌else◌, List, [], ◌∷◌}
+use Rattle.std.proofs.Common.{length, map, refl, ap, sym, ◌∙◌, arith, subst, inl, inr, ◌⊎◌, Option, Some, None}
 use Rattle.std.specs.Prelude.{is_some, slice_get, filter_map, All, AllPairs, IsNone}
 use Rattle.std.specs.List.{range_with_len}
 use Rattle.std.proofs.lemmas.Bool.{cases_eq, cases_lt}
@@ -42,7 +43,8 @@ none-some o none some = (let no : false ≡ true = sym none ∙ some in cc)
 low-by : (plan : PlanData) (i : ℕ) (s : StationData) → IsAccepted plan → slice_get plan.stations i ≡ Some s → is_some s.terminal.subsystem ≡ true →
     (s.terminal.address ≡ 31) ⊎ (s.terminal.address ≢ 31) → s.terminal.address < 31
 low-by plan i s accepted at names (inl last) =
-    absurd (none-some s.terminal.subsystem ((all-at (λ (d : StationData). d.terminal.address ≡ 31 → IsController plan d.terminal) plan.stations i s accepted.controllers at) last).no_subsystem names)
+    let controls : StationData → Type 0 = λ d. d.terminal.address ≡ 31 → IsController plan d.terminal in
+    absurd (none-some s.terminal.subsystem ((all-at controls plan.stations i s accepted.controllers at) last).no_subsystem names)
 low-by plan i s accepted at names (inr other) =
     let few = (all-at HasStationRanges plan.stations i s accepted.ranges at).terminal.address in
     omega (arith, few, other)

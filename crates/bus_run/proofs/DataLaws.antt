@@ -12,7 +12,8 @@ use Rattle.bus_formats.specs.declared.log.Registers.{Registers}
 use Rattle.bus_model.specs.Memory.{Memory, TimedLoad, with_loads}
 use Rattle.bus_model.specs.Commands.{Tail, unexpected, relay_from, carries, tail_of, has_code, is_illegal}
 use Rattle.bus_formats.specs.Codes.{transmit_status_word, reset_remote_terminal, transmit_last_command}
-use Rattle.bus_model.specs.Orders.{Taken, Obeyed, Duty, free, owes, promises, marked, mode_effect, reset, answer, block_taken, leaves, carried_out, answered, obey_data, obey_tail, with_error, kept, relayed}
+use Rattle.bus_model.specs.Orders.{Taken, Obeyed, Duty, free, owes, promises, marked, mode_effect, reset, answer, block_taken}
+use Rattle.bus_model.specs.Orders.{leaves, carried_out, answered, obey_data, obey_tail, with_error, kept, relayed}
 use Rattle.bus_model.specs.Standing.{Standing, Handled, obeys, settles, runs_out}
 use Rattle.bus_model.specs.Terminal.{standing, order_now, kept_by, done_by, taken_by, taken_of, took_now}
 use Rattle.bus_model.specs.Hearing.{Moment, Hearing}
@@ -80,7 +81,8 @@ kept-data : (t : TerminalData) (memory : Memory) (channel : Channel) (command : 
 kept-data t memory channel command None = tt
 kept-data t memory channel command (Some words) =
     by-either (is_illegal t command) (answered t memory channel command (with_error t memory channel true) [])
-    (leaves t memory channel memory.registers (block_taken t command words) (answer t memory.registers channel command false [])) tt (block-data t command words)
+    (leaves t memory channel memory.registers (block_taken t command words) (answer t memory.registers channel command false [])) tt
+    (block-data t command words)
 
 kept-by-data : (k : ℕ) (t : TerminalData) (memory : Memory) (c : Channel) (duty : Duty) (slots : List (Option Word)) (rest : ℕ) →
     IsOfData (kept_by k t memory c duty slots rest).taken

@@ -74,7 +74,8 @@ found-by : {A B : Type 0} (P : A → Option B) (z : A) (xs : List A) (p : ℕ) (
     ((q : ℕ) → slice_get (filter_map P xs) q ≡ Some y → FoundFrom P xs q y) → slice_get (filter_map P (z ∷ xs)) p ≡ Some y → FoundFrom P (z ∷ xs) p y
 found-by P z xs p y None is rest at =
     subst (λ m. FoundFrom P (z ∷ xs) m y) (zero-add p)
-    (found-later P z xs p 0 y (rest p (ap (λ ys. slice_get ys p) (sym (found-no P z xs is)) ∙ at)) (λ zs. ap length (found-no P z zs is) ∙ sym (zero-add (length (filter_map P zs)))))
+    (found-later P z xs p 0 y (rest p (ap (λ ys. slice_get ys p) (sym (found-no P z xs is)) ∙ at))
+    (λ zs. ap length (found-no P z zs is) ∙ sym (zero-add (length (filter_map P zs)))))
 found-by P z xs zero y (Some w) is rest at =
     let same : w ≡ y = same_Some w y (ap (λ ys. slice_get ys 0) (sym (found-yes P z xs w is)) ∙ at) in
     record { place = 0; x = z; at = refl; is = is ∙ ap Some same; before = refl }
@@ -152,7 +153,8 @@ served-first t stations address s false some at names rest is =
 served-from : (stations : List StationData) (address : ℕ) (s : StationData) → served_at stations address ≡ Some s → ServedFrom stations address s
 served-from [] address s is = (let no : None ≡ Some s = is in cc)
 served-from (t ∷ stations) address s is =
-    served-first t stations address s (t.terminal.address == address) (is_some t.terminal.subsystem) refl refl (λ later. served-from stations address s later) is
+    served-first t stations address s (t.terminal.address == address) (is_some t.terminal.subsystem) refl refl
+    (λ later. served-from stations address s later) is
 
 -- the first station with its address that names a subsystem is served
 served-here : (stations : List StationData) (i : ℕ) (s : StationData) → slice_get stations i ≡ Some s → is_some s.terminal.subsystem ≡ true →

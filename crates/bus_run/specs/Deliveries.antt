@@ -63,7 +63,8 @@ TellsMore (Some old) more (Some now) = now ≡ old ++ more
 
 -- objects that told `before` at the start of the run tell in addition what their terminals took; and they have room for all that may come.
 -- What they tell and their room, in their order
-pub record Serves (plan : PlanData) (before : List (Option (List Delivery))) (past : List Pair) (told : List (Option (List Delivery))) (spare : List ℕ) : Type 0 where
+pub record Serves (plan : PlanData) (before : List (Option (List Delivery))) (past : List Pair) (told : List (Option (List Delivery)))
+    (spare : List ℕ) : Type 0 where
   pub all : length told ≡ length (served plan)
   pub all_before : length before ≡ length (served plan)
   pub all_spare : length spare ≡ length (served plan)

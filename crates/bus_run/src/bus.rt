@@ -1,5 +1,6 @@
 //! The bus of a plan, tick by tick.
-ghost use Rattle.std.specs.Prelude.{◌≡◌, ◌≤◌, ◌<◌, ◌+◌, ◌*◌, ◌||◌, nat_lt, ℕ, suc, List, [], map, true, false, Option, None, Some, IsSome, IfOk, OnOk, OnErr, All, length};
+ghost use Rattle.std.specs.Prelude.{◌≡◌, ◌≤◌, ◌<◌, ◌+◌, ◌*◌, ◌||◌, nat_lt, ℕ, suc, List, [], map, length, true, false, Option, None, Some, IsSome};
+ghost use Rattle.std.specs.Prelude.{All, IfOk, OnOk, OnErr};
 ghost use Rattle.bus_line.specs.Channels.{valid, bursts};
 ghost use Rattle.bus_line.specs.declared.cutter.TheConstants.{LAG};
 ghost use Rattle.bus_formats.specs.Accepted.{IsAccepted};

@@ -1,6 +1,5 @@
 //! Which of the objects for subsystems stay.
-ghost use Rattle.std.specs.Prelude.{◌≡◌, ◌<◌, length, map, vec_len, All};
-ghost use Rattle.std.specs.List.{range_with_len};
+ghost use Rattle.std.specs.Prelude.{◌≡◌, ◌<◌, length, All};
 ghost use Rattle.bus_run.specs.Kept.{place_of as place_at, places_from, named_at, IsPicked};
 ghost use Rattle.bus_run.specs.Kept as spec;
 

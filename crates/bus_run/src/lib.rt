@@ -4,7 +4,8 @@
 //! `specs/Stands` says for which plan and number of ticks a bus stands. It is proved that after so many ticks what `tick` answered is what
 //! the channels show in the world of the plan, each station stands for its plan and that world, and the attempts, words, bursts and clashes
 //! are those that are found there; that the run ends exactly where `specs/Ends` says; and that the log of a finished run is the one that
-//! `bus_model` finds. `prepare` takes all memory, and a tick none.
+//! `bus_model` finds. Each object that tells what it took tells in addition, tick by tick, the blocks that the terminal of its station took,
+//! in their order and no others (`specs/Deliveries`). `prepare` takes all memory, and a tick none.
 #![tactic(auto)]
 
 pub mod amounts;

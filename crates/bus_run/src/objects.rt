@@ -1,5 +1,5 @@
 //! The objects behind the terminals: room for deliveries, and a delivery to one of them.
-ghost use Rattle.std.specs.Prelude.{◌≡◌, ◌≢◌, ◌≤◌, ◌<◌, ◌+◌, ℕ, map, length, slice_get, vec_len, All, OnOk, Some};
+ghost use Rattle.std.specs.Prelude.{◌≡◌, ◌≢◌, ◌≤◌, ◌<◌, ◌+◌, ℕ, map, length, slice_get, All, OnOk, Some};
 ghost use Rattle.bus_subsystem.specs.Deliveries.{Takes};
 ghost use Rattle.bus_run.specs.Kept.{places_from, HasRoom};
 

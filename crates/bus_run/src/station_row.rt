@@ -1,5 +1,5 @@
 //! The stations of a bus, the attempts that they ended, and the deliveries to the objects of their subsystems.
-ghost use Rattle.std.specs.Prelude.{◌≡◌, ◌≤◌, ◌<◌, ◌^◌, ◌+◌, ℕ, suc, Bool, if◌then◌else◌, List, [], ◌∷◌, ◌++◌, map, length, slice_get, Option, Some, is_some};
+ghost use Rattle.std.specs.Prelude.{◌≡◌, ◌≤◌, ◌<◌, ◌^◌, ◌+◌, ℕ, suc, if◌then◌else◌, List, [], ◌∷◌, map, length, slice_get, Option, Some, is_some};
 ghost use Rattle.std.specs.Prelude.{vec_len, vec_capacity};
 ghost use Rattle.bus_base.specs.declared.samples.Pair.{Pair};
 ghost use Rattle.bus_line.specs.declared.cutter.TheConstants.{LAG};
@@ -9,7 +9,6 @@ ghost use Rattle.bus_model.specs.Starts.{starts};
 ghost use Rattle.bus_model.specs.World.{is_done};
 ghost use Rattle.std.specs.List.{list_all};
 ghost use Rattle.bus_station.specs.StationStands.{StationStands};
-ghost use Rattle.bus_station.specs.Told.{ended_newest, attempts_told};
 ghost use Rattle.bus_run.specs.Amounts.{most_deliveries};
 ghost use Rattle.bus_run.specs.Deliveries.{delivering, delivered_of, ObjectsOf, Serves, IsHandedOn};
 ghost use Rattle.bus_run.specs.Parts.{StationsStand};
@@ -156,8 +155,8 @@ fn hand_on(subsystems: &mut Vec<Box<dyn Subsystem>>, object: Option<usize>, deli
     requires room { (p : ℕ) (b : _) → object ≡ Some p → slice_get subsystems.old.items p ≡ Some b → 0 < spare b }
     requires low { 0 < delivery.sub }
     requires high { delivery.sub < 31 }
-    ensures { IsHandedOn object delivery (map (λ b. told b) subsystems.old.items) (map (λ b. told b) subsystems.new.items) (map (λ b. spare b) subsystems.old.items)
-        (map (λ b. spare b) subsystems.new.items) }
+    ensures { IsHandedOn object delivery (map (λ b. told b) subsystems.old.items) (map (λ b. told b) subsystems.new.items)
+        (map (λ b. spare b) subsystems.old.items) (map (λ b. spare b) subsystems.new.items) }
 {
     if let Some(place) = object {
         deliver(subsystems, place, delivery);
