@@ -56,7 +56,7 @@ impl ChannelLister {
         match self.cutter.hear(sample) {
             Cut::Nothing => self.wait(channel, now, sample, text),
             Cut::Slot { word, .. } => self.keep(word),
-            Cut::Ended { rest, .. } => add_closed(channel, self.end_burst(now, rest), text),
+            Cut::Ended { rest, .. } => self.close_burst(channel, now, rest, text),
         }
     }
 
@@ -133,6 +133,24 @@ impl ChannelLister {
             Some(waiting) => waiting.is_over(now),
             None => false,
         }
+    }
+
+    // The burst that ran has ended: adds the line of the message that closes with it. A call of its own, since few ticks end a burst.
+    #[inline(never)]
+    fn close_burst(&mut self, channel: Channel, now: u64, rest: u8, text: &mut Line)
+        requires { length text.old ≤ 400 }
+        ensures text { (first : ℕ) (whole : List (Option Word)) → self.old.running ≡ Some first → self.old.slots.items ≡ take 34 whole →
+            text.new ≡ text.old ++ closed_lines channel (closed_in (burst_next self.old.waiting first (now - LAG) now whole rest)) }
+        ensures grows { length text.new ≤ length text.old + 100 }
+        ensures keeps { (first : ℕ) (whole : List (Option Word)) → self.old.running ≡ Some first → self.old.slots.items ≡ take 34 whole →
+            self.new ≡ record self.old {
+              running = None;
+              slots = record { items = [] };
+              waiting = waits_in (burst_next self.old.waiting first (now - LAG) now whole rest);
+            } }
+    {
+        let closed = self.end_burst(now, rest);
+        add_closed(channel, closed, text);
     }
 
     // The burst that ran has ended, with so many ticks after its last whole slot.

@@ -142,6 +142,45 @@ fn both_channels_at_once(rt: HostRuntime) -> Result<(), Fail> {
     Ok(())
 }
 
+// Traffic on both channels at once, over the ends of lines, in pieces of so many bytes: of one, where no whole line is taken at once, or of
+// more. The second of the two words on B after tick 240 comes after three quiet ticks, so it fills no slot. The expected lines are those of a
+// model that was written apart from this program.
+fn busy_channels_are_listed(alloc: Global, most: usize) -> Result<bool, AllocError>
+    requires { 0 < most }
+{
+    let mut pairs = [QUIET; 384];
+    show(&mut pairs, Channel::A, 3, Sync::Command, 0x2822);
+    show(&mut pairs, Channel::A, 43, Sync::Datum, 0x0102);
+    show(&mut pairs, Channel::A, 83, Sync::Datum, 0xffff);
+    show(&mut pairs, Channel::A, 130, Sync::Command, 0x2800);
+    show(&mut pairs, Channel::B, 50, Sync::Command, 0x2c22);
+    show(&mut pairs, Channel::B, 100, Sync::Command, 0x2800);
+    show(&mut pairs, Channel::B, 140, Sync::Datum, 0xabcd);
+    show(&mut pairs, Channel::B, 180, Sync::Datum, 0x8001);
+    show(&mut pairs, Channel::A, 200, Sync::Command, 0xfc01);
+    show(&mut pairs, Channel::B, 243, Sync::Datum, 0x1234);
+    show(&mut pairs, Channel::B, 286, Sync::Command, 0x2c02);
+    let done = Listing::Done(384);
+    let words =
+        "word 3 A c 2822\nword 43 A d 0102\nword 50 B c 2C22\nword 83 A d FFFF\nword 100 B c 2800\n\
+        word 130 A c 2800\nword 140 B d ABCD\nword 180 B d 8001\nword 200 A c FC01\nword 243 B d 1234\nend 384\n";
+    let messages = "message 3 A 2822 clear status 2800\nmessage 50 B 2C22 clear status 2800\n\
+        message 200 A FC01 sent\nmessage 243 B unknown\nend 384\n";
+    let text = text_of(alloc, &pairs)?;
+    let words = lists(alloc, What::Words, text, most, done, words)?;
+    let text = text_of(alloc, &pairs)?;
+    let messages = lists(alloc, What::Messages, text, most, done, messages)?;
+    Ok(words && messages)
+}
+
+#[test]
+fn whole_lines_are_listed_as_their_bytes_are(rt: HostRuntime) -> Result<(), Fail> {
+    assert!(rt; busy_channels_are_listed(rt.alloc(), 1)?);
+    assert!(rt; busy_channels_are_listed(rt.alloc(), 100)?);
+    assert!(rt; busy_channels_are_listed(rt.alloc(), 4096)?);
+    Ok(())
+}
+
 // An answer counts that begins after 24 quiet ticks, and none that begins after 25.
 #[test]
 fn an_answer_begins_in_the_last_tick(rt: HostRuntime) -> Result<(), Fail> {

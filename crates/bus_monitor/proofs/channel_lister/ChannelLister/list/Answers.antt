@@ -35,14 +35,14 @@ pub returns-in-Ended-clause-text : goal.returns-in-Ended-clause-text
 returns-in-Ended-clause-text c past s here =
     let e : IsEnded LAG c.args.sample past c.in-Ended.rest =
     end-is c.args.sample past c.in-Ended.slots c.in-Ended.rest (c.in-Ended.ensures.cut past s.cutter) in
-    c.add_closed.ensures.text ∙ ap (λ (closed : List Closed). c.args.text.now ++ closed_lines c.args.channel closed)
-    (c.end_burst.ensures.closed e.first (running_slots LAG past) (s.running ∙ e.ran) s.slots
-    ∙ end-closed c.args.self.now.waiting c.args.sample past c.args.now c.in-Ended.rest s.waiting here e)
+    c.close_burst.ensures.text e.first (running_slots LAG past) (s.running ∙ e.ran) s.slots
+    ∙ ap (λ (closed : List Closed). c.args.text.now ++ closed_lines c.args.channel closed)
+    (end-closed c.args.self.now.waiting c.args.sample past c.args.now c.in-Ended.rest s.waiting here e)
 
 pub returns-in-Ended-clause-stands : goal.returns-in-Ended-clause-stands
 returns-in-Ended-clause-stands c past s here =
     let e : IsEnded LAG c.args.sample past c.in-Ended.rest =
     end-is c.args.sample past c.in-Ended.slots c.in-Ended.rest (c.in-Ended.ensures.cut past s.cutter) in
     subst (λ (l : ChannelLister). ChannelListerStands l (c.args.sample ∷ past))
-    (sym (c.end_burst.ensures.keeps e.first (running_slots LAG past) (s.running ∙ e.ran) s.slots))
+    (sym (c.close_burst.ensures.keeps e.first (running_slots LAG past) (s.running ∙ e.ran) s.slots))
     (end-stands c.args.self.now c.hear.new.self c.args.sample past c.args.now c.in-Ended.rest s here e (c.hear.ensures.stands past s.cutter))
