@@ -1,44 +1,36 @@
 -- A message whose answer is due, which ends it and keeps control: the world shows that answer, the message ends, and the world is settled again.
-use Rattle.std.proofs.Common.{◌≡◌, ◌≢◌, inl, inr, ℕ, suc, ◌+◌, ◌*◌, ◌%◌, ◌<◌, true, false, List, [], ◌∷◌, ◌++◌, length, Some, sym, ap, ◌∙◌, subst, arith, length-append}
+use Rattle.std.proofs.Common.{◌≡◌, ◌≢◌, inl, inr, ℕ, suc, ◌+◌, ◌*◌, ◌%◌, ◌<◌, true, false, List, ◌∷◌, ◌++◌, length, Some, sym, ap, ◌∙◌, subst, arith}
 use Rattle.std.proofs.lemmas.Bool.{cases_eq}
 use Rattle.std.proofs.lemmas.Option.{same_Some}
 use Rattle.std.specs.Prelude.{slice_get, ◌==◌, not}
 use Rattle.bus_base.specs.declared.samples.Channel.{Channel}
 use Rattle.bus_base.specs.declared.samples.Drive.{Drive}
-use Rattle.bus_base.specs.declared.samples.Drive.TheVariants.{Silent}
 use Rattle.bus_base.specs.declared.samples.Pair.{Pair}
 use Rattle.bus_base.specs.declared.samples.Part.TheVariants.{First}
 use Rattle.bus_base.specs.declared.samples.Sample.{Sample}
 use Rattle.bus_words.specs.declared.word.Word.{Word}
-use Rattle.bus_line.specs.Past.{Burst, quiet_ticks, runs, rest_of, ended_now}
-use Rattle.bus_line.specs.Channels.{on_channel}
-use Rattle.bus_line.proofs.ChannelLaws.{length-on, on-append}
+use Rattle.bus_line.specs.Past.{rest_of}
 use Rattle.bus_formats.specs.Plans.{StationData, PlanData}
 use Rattle.bus_formats.specs.Readings.{read_answer}
 use Rattle.bus_formats.specs.declared.fault.Hit.{Hit}
 use Rattle.bus_model.specs.Memory.{TimedLoad}
-use Rattle.bus_model.specs.Sending.{drive_sample}
 use Rattle.bus_model.specs.Starts.{starts}
 use Rattle.bus_model.specs.Strikes.{added_by}
-use Rattle.bus_model.specs.Transmissions.{drive_or, station_drive}
 use Rattle.bus_model.specs.Attempts.{Begun, Ended}
 use Rattle.bus_model.specs.Controller.{first_read}
 use Rattle.bus_model.specs.Course.{Course, gives, close}
 use Rattle.bus_model.specs.Control.{OutsideTake, yielded_in, course_after}
-use Rattle.bus_model.specs.World.{Trace, trace, is_present, drives_after}
+use Rattle.bus_model.specs.World.{Trace, trace, is_present}
 use Rattle.bus_law_line.specs.Shown.{slots_shown}
-use Rattle.bus_law_line.specs.Senders.{Sender}
-use Rattle.bus_law_line.proofs.Sent.{left-spent}
 use Rattle.bus_law_messages.specs.Settled.{IsServing, Settled, NoneTakes}
-use Rattle.bus_law_messages.specs.Commands.{LeavesWhole, WordsEnd}
+use Rattle.bus_law_messages.specs.Commands.{LeavesWhole}
 use Rattle.bus_law_messages.specs.Ends.{burst_sent, HeardCommand}
-use Rattle.bus_law_messages.specs.Answers.{AnswerDue, answer_sender, LeavesNothing}
+use Rattle.bus_law_messages.specs.Answers.{AnswerDue, LeavesNothing}
 use Rattle.bus_law_messages.specs.AnswerRead.{AnswerRead}
 use Rattle.bus_law_messages.proofs.Listening.{serving-listens}
-use Rattle.bus_law_messages.proofs.Running.{RunsAlone, words-over}
-use Rattle.bus_law_messages.proofs.Sending.{place-silent, place-drives, none-takes-from, shown-long}
+use Rattle.bus_law_messages.proofs.Sending.{shown-long}
 use Rattle.bus_law_messages.proofs.AnswerSpoken.{Speaking, Spoken, answer-spoken}
-use Rattle.bus_law_messages.proofs.Unanswered.{first-silent, rests-both, serving-again, trace-later}
+use Rattle.bus_law_messages.proofs.Unanswered.{serving-again, trace-later}
 use Rattle.bus_law_messages.proofs.Answering.{first-reply}
 use Rattle.bus_law_messages.proofs.Waiting.{not-yielded, first-holding, waiting-silent, read-course}
 

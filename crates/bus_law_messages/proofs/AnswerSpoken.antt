@@ -1,8 +1,7 @@
 -- An answer that is due: its station sends it alone, and k ticks after its end every other one has heard it.
-use Rattle.std.proofs.Common.{◌≡◌, ◌≢◌, inl, inr, ℕ, suc, ◌+◌, ◌*◌, ◌%◌, ◌<◌, true, false, List, [], ◌∷◌, ◌++◌, length, Some, sym, ap, ◌∙◌, subst, arith, length-append}
+use Rattle.std.proofs.Common.{◌≡◌, ◌≢◌, inl, inr, ℕ, suc, ◌+◌, ◌*◌, ◌<◌, true, false, List, [], ◌∷◌, ◌++◌, length, Some, sym, ap, ◌∙◌, subst, arith, length-append}
 use Rattle.std.proofs.lemmas.Bool.{cases_eq}
-use Rattle.std.proofs.lemmas.Option.{same_Some}
-use Rattle.std.specs.Prelude.{slice_get, ◌==◌, not}
+use Rattle.std.specs.Prelude.{slice_get}
 use Rattle.bus_base.specs.declared.samples.Channel.{Channel}
 use Rattle.bus_base.specs.declared.samples.Drive.{Drive}
 use Rattle.bus_base.specs.declared.samples.Drive.TheVariants.{Silent}
@@ -10,39 +9,32 @@ use Rattle.bus_base.specs.declared.samples.Pair.{Pair}
 use Rattle.bus_base.specs.declared.samples.Part.{Part}
 use Rattle.bus_base.specs.declared.samples.Sample.{Sample}
 use Rattle.bus_words.specs.declared.word.Word.{Word}
-use Rattle.bus_line.specs.Past.{Burst, quiet_ticks, runs, rest_of, ended_now}
+use Rattle.bus_line.specs.Past.{Burst, quiet_ticks, runs, ended_now}
 use Rattle.bus_line.specs.Channels.{on_channel}
 use Rattle.bus_line.proofs.ChannelLaws.{length-on, on-append}
 use Rattle.bus_formats.specs.Plans.{StationData, PlanData}
-use Rattle.bus_formats.specs.Readings.{read_answer}
 use Rattle.bus_formats.specs.declared.fault.Hit.{Hit}
 use Rattle.bus_model.specs.Memory.{TimedLoad}
 use Rattle.bus_model.specs.Sending.{drive_sample}
 use Rattle.bus_model.specs.Starts.{starts}
 use Rattle.bus_model.specs.Strikes.{added_by}
 use Rattle.bus_model.specs.Transmissions.{drives_on, drive_or, station_drive, newest_drives}
-use Rattle.bus_model.specs.Attempts.{Begun, Ended}
-use Rattle.bus_model.specs.Controller.{first_read}
-use Rattle.bus_model.specs.Course.{Course, gives, close}
 use Rattle.bus_model.specs.Control.{OutsideTake, drives_next}
-use Rattle.bus_model.specs.World.{Trace, trace, is_present, drives_after}
-use Rattle.bus_law_line.specs.Shown.{slots_shown}
+use Rattle.bus_model.specs.World.{Trace, is_present, drives_after}
 use Rattle.bus_law_line.specs.Senders.{Sender, IsSpent}
 use Rattle.bus_law_line.proofs.Sent.{left-spent}
-use Rattle.bus_law_messages.specs.Settled.{IsServing, Settled, NoneTakes}
+use Rattle.bus_law_messages.specs.Settled.{IsServing, NoneTakes}
 use Rattle.bus_law_messages.specs.Commands.{LeavesWhole, WordsEnd}
 use Rattle.bus_law_messages.specs.Ends.{burst_sent}
 use Rattle.bus_law_messages.specs.Relays.{reply_sender}
 use Rattle.bus_law_messages.specs.Promises.{Listens, HeardBurst, IsReplying}
-use Rattle.bus_law_messages.specs.AnswerRead.{AnswerRead}
 use Rattle.bus_law_messages.proofs.Listening.{serving-silent}
 use Rattle.bus_law_messages.proofs.Running.{RunsAlone, words-over}
-use Rattle.bus_law_messages.proofs.Sending.{place-silent, place-drives, none-takes-from, shown-long}
+use Rattle.bus_law_messages.proofs.Sending.{place-silent, place-drives, none-takes-from}
 use Rattle.bus_law_messages.proofs.Heard.{burst-of}
 use Rattle.bus_law_messages.proofs.HeardBursts.{heard-burst}
-use Rattle.bus_law_messages.proofs.Unanswered.{first-silent, rests-both, serving-again, trace-later}
+use Rattle.bus_law_messages.proofs.Unanswered.{first-silent, rests-both}
 use Rattle.bus_law_messages.proofs.Answering.{answer-drives, serving-after}
-use Rattle.bus_law_messages.proofs.Waiting.{not-yielded, waiting-silent, read-course}
 
 -- a moment in which one station begins to answer on a channel, while that in control is silent and all others listen
 pub record Speaking (k : ℕ) (plan : PlanData) (loads : List TimedLoad) (outside : List OutsideTake) (absent : List ℕ) (before : Trace) (place : ℕ)

@@ -1,42 +1,32 @@
 -- A terminal that listens, where the end of another station's burst becomes known: it obeys it, or settles its promise by it, or passes it over.
-use Rattle.std.proofs.Common.{◌≡◌, inl, inr, ℕ, suc, ◌+◌, ◌*◌, ◌<◌, ◌≤◌, Bool, true, false, List, [], ◌∷◌, ◌++◌, length, Option, Some, None, refl, sym, ap, ◌∙◌, subst, arith, length-append}
-use Rattle.std.proofs.lemmas.Bool.Decides.{nat_tests}
-use Rattle.std.proofs.lemmas.List.{append_assoc}
-use Rattle.std.proofs.lemmas.Option.{none-some, same_Some}
-use Rattle.std.specs.Prelude.{◌&&◌, ◌==◌, nat_le, if◌then◌else◌, drop}
-use Rattle.bus_base.specs.Samples.{sample_on, other_of}
+use Rattle.std.proofs.Common.{◌≡◌, ℕ, suc, ◌+◌, ◌*◌, ◌<◌, ◌≤◌, Bool, true, List, [], ◌∷◌, ◌++◌, length, Some, sym, ap, ◌∙◌, subst, arith, length-append}
+use Rattle.std.specs.Prelude.{drop}
+use Rattle.bus_base.specs.Samples.{other_of}
 use Rattle.bus_base.specs.declared.samples.Channel.{Channel}
 use Rattle.bus_base.specs.declared.samples.Pair.{Pair}
 use Rattle.bus_base.specs.declared.samples.Sample.{Sample}
 use Rattle.bus_words.specs.declared.word.Word.{Word}
-use Rattle.bus_line.specs.Past.{Burst, InLeg, quiet_ticks, runs, ended_now, end_of, rest_of}
+use Rattle.bus_line.specs.Past.{Burst, InLeg, quiet_ticks, ended_now, end_of, rest_of}
 use Rattle.bus_line.specs.Channels.{on_channel}
 use Rattle.bus_formats.specs.Plans.{TerminalData, StationData}
 use Rattle.bus_formats.specs.declared.fault.Hit.{Hit}
-use Rattle.bus_model.specs.Memory.{Memory, TimedLoad}
-use Rattle.bus_model.specs.Orders.{Duty, owes, promises, Order, Obeyed, last_order, due_after}
-use Rattle.bus_model.specs.Orders as orders
+use Rattle.bus_model.specs.Memory.{TimedLoad}
+use Rattle.bus_model.specs.Orders.{Obeyed, due_after}
 use Rattle.bus_model.specs.Hearing.{Moment, Hearing, heard_on}
-use Rattle.bus_model.specs.Standing.{Standing, is_owed}
+use Rattle.bus_model.specs.Standing.{is_owed}
 use Rattle.bus_model.specs.Starts.{has_items}
-use Rattle.bus_model.specs.Terminal.{given_up, standing, standing_after, took_now, accepted_by, accepted_on, accepted_now, heard_status}
-use Rattle.bus_model.specs.Course.{Take, Course}
-use Rattle.bus_model.specs.Control.{OutsideTake, StationSoFar, unheard_ticks, moment_of, hear_more, takes_in, taken_over, serve, hold, course_with, so_far, course_after, hearing_after, outside_takes}
-use Rattle.bus_law_line.specs.Shown.{struck_of, struck_spelling}
+use Rattle.bus_model.specs.Terminal.{standing, standing_after, took_now}
+use Rattle.bus_model.specs.Course.{Course}
+use Rattle.bus_model.specs.Control.{OutsideTake, StationSoFar, moment_of, course_after, hearing_after, outside_takes}
+use Rattle.bus_law_line.specs.Shown.{struck_spelling}
 use Rattle.bus_law_line.specs.Senders.{AreHeard}
-use Rattle.bus_law_line.proofs.Rows.{ended-row}
-use Rattle.bus_law_line.proofs.WordSlots.{slots-sent}
-use Rattle.bus_law_stations.specs.Legs.{BeginsAnswer, with_addressed, IsUnheeded, obeyed_in, settled_in, after_command, after_promise}
+use Rattle.bus_law_stations.specs.Legs.{BeginsAnswer, obeyed_in, settled_in, after_command, after_promise}
 use Rattle.bus_law_stations.specs.Turns.{moments_of, TakesNothing}
-use Rattle.bus_law_stations.proofs.BurstEnds.{obeyed, passed}
-use Rattle.bus_law_stations.proofs.Due.{obeyed-due}
 use Rattle.bus_law_stations.specs.Silence.{quiet_moments}
 use Rattle.bus_base.specs.declared.samples.Part.TheVariants.{First, Second}
 use Rattle.bus_law_stations.proofs.LegTicks.{heard-append}
-use Rattle.bus_law_stations.proofs.Obeying.{running-marks}
-use Rattle.bus_law_stations.proofs.Resting.{heard-long, rests-quiet}
+use Rattle.bus_law_stations.proofs.Resting.{heard-long}
 use Rattle.bus_law_stations.proofs.Turning.{serving-hears, serving-same}
-use Rattle.bus_law_stations.proofs.Unheeded.{quiet-unheeded}
 use Rattle.bus_law_messages.specs.Settled.{IsServing}
 use Rattle.bus_law_messages.specs.Promises.{Listens, HeardBurst}
 use Rattle.bus_law_messages.specs.Ends.{burst_sent, HeardCommand}

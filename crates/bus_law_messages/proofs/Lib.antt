@@ -33,3 +33,6 @@ pub mod ListensOn
 pub mod OwesOn
 pub mod PauseToReply
 pub mod Settling
+pub mod Transmitting
+pub mod RelayEnds
+pub mod RelayWaits

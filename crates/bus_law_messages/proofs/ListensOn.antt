@@ -1,5 +1,5 @@
 -- A station that listens, over quiet ticks: it is silent, and goes on listening while its promise lasts.
-use Rattle.std.proofs.Common.{◌≡◌, inl, inr, ℕ, suc, ◌+◌, ◌<◌, ◌≤◌, Bool, true, false, List, [], ◌∷◌, ◌++◌, length, Option, Some, None, refl, sym, ap, ◌∙◌, subst, arith, length-append}
+use Rattle.std.proofs.Common.{◌≡◌, inl, inr, ℕ, suc, ◌+◌, ◌<◌, ◌≤◌, Bool, true, false, List, [], ◌∷◌, ◌++◌, length, refl, sym, ap, ◌∙◌, subst, arith}
 use Rattle.std.proofs.lemmas.Bool.{true≢false}
 use Rattle.std.proofs.lemmas.Option.{none-some}
 use Rattle.std.specs.Prelude.{◌&&◌, not, is_some}
@@ -14,12 +14,12 @@ use Rattle.bus_model.specs.Waits.{relay_wait}
 use Rattle.bus_model.specs.Memory.{TimedLoad}
 use Rattle.bus_model.specs.Orders.{due_after}
 use Rattle.bus_model.specs.Hearing.{Moment, Hearing, heard_on}
-use Rattle.bus_model.specs.Standing.{Standing, mark_on, ignored_from, is_promise, superseded, promised_on}
+use Rattle.bus_model.specs.Standing.{Standing, mark_on, ignored_from, is_promise, superseded}
 use Rattle.bus_model.specs.Terminal.{standing_after}
 use Rattle.bus_model.specs.Course.{Course}
-use Rattle.bus_model.specs.Control.{OutsideTake, StationSoFar, outside_takes, course_after, hearing_after, drives_next}
+use Rattle.bus_model.specs.Control.{OutsideTake, StationSoFar, outside_takes, hearing_after, drives_next}
 use Rattle.bus_law_stations.specs.Silence.{quiet_pairs, quiet_moments, StationRests}
-use Rattle.bus_law_stations.proofs.LegTicks.{heard-append, heeded-later}
+use Rattle.bus_law_stations.proofs.LegTicks.{heeded-later}
 use Rattle.bus_law_stations.proofs.Resting.{heard-quiet, rests-quiet}
 use Rattle.bus_law_stations.proofs.StillStation.{still-so-far, still-after, still-terminal, still-quiet}
 use Rattle.bus_law_messages.specs.Promises.{IsListening, Listens}

@@ -1,18 +1,15 @@
 -- After a command that one terminal is to answer the world is silent, until that answer is due.
-use Rattle.std.proofs.Common.{◌≡◌, ◌≢◌, inl, inr, ℕ, suc, ◌+◌, ◌<◌, ◌≤◌, true, false, List, ◌++◌, length, Some, None, sym, ap, ◌∙◌, subst, arith}
-use Rattle.std.proofs.lemmas.Bool.{cases_eq, true≢false}
-use Rattle.std.proofs.lemmas.Option.{none-some}
-use Rattle.std.specs.Prelude.{slice_get, not}
-use Rattle.bus_base.specs.Samples.{other_of, same_channel}
+use Rattle.std.proofs.Common.{◌≡◌, ◌≢◌, inl, ℕ, suc, ◌+◌, ◌<◌, ◌≤◌, true, false, List, ◌++◌, length, Some, None, sym, ap, ◌∙◌, subst, arith}
+use Rattle.std.specs.Prelude.{slice_get}
+use Rattle.bus_base.specs.Samples.{other_of}
 use Rattle.bus_base.specs.declared.samples.Channel.{Channel}
-use Rattle.bus_base.specs.declared.samples.Channel.TheVariants.{A, B}
 use Rattle.bus_base.specs.declared.samples.Part.TheVariants.{First}
 use Rattle.bus_base.specs.declared.samples.Drive.{Drive}
 use Rattle.bus_base.specs.declared.samples.Drive.TheVariants.{Silent}
 use Rattle.bus_base.specs.declared.samples.Pair.{Pair}
 use Rattle.bus_base.specs.declared.samples.Sample.{Sample}
 use Rattle.bus_words.specs.declared.word.Word.{Word}
-use Rattle.bus_line.specs.Past.{Burst, quiet_ticks, runs, end_of, rest_of}
+use Rattle.bus_line.specs.Past.{Burst, runs, end_of, rest_of}
 use Rattle.bus_line.specs.Channels.{on_channel}
 use Rattle.bus_formats.specs.Forms.{answers_of, command_words}
 use Rattle.bus_formats.specs.Plans.{TerminalData, StationData, PlanData}
@@ -22,36 +19,29 @@ use Rattle.bus_formats.specs.declared.form.Shape.{Shape}
 use Rattle.bus_model.specs.Memory.{TimedLoad}
 use Rattle.bus_model.specs.Orders.{Obeyed, Order, last_order, owes, due_after}
 use Rattle.bus_model.specs.Hearing.{Hearing, heard_on}
-use Rattle.bus_model.specs.Standing.{Standing, mark_on, ignored_from, is_owed, is_promise, superseded, promised_on}
+use Rattle.bus_model.specs.Standing.{Standing, mark_on, ignored_from, is_owed}
 use Rattle.bus_model.specs.Starts.{starts, has_items}
 use Rattle.bus_model.specs.Terminal.{standing_after}
-use Rattle.bus_model.specs.Transmissions.{drive_or, station_drive}
 use Rattle.bus_model.specs.Attempts.{Begun}
 use Rattle.bus_model.specs.Course.{Course}
 use Rattle.bus_model.specs.Control.{OutsideTake, course_after, hearing_after, drives_next}
-use Rattle.bus_model.specs.World.{Trace, is_present, drives_after, ticks_on}
-use Rattle.bus_law_line.specs.Senders.{IsSpent, LeftAlone}
-use Rattle.bus_law_line.proofs.Sent.{left-spent}
-use Rattle.bus_law_stations.specs.Silence.{quiet_pairs, quiet_moments, AwaitsFirst, NothingStarts, StationRests}
-use Rattle.bus_law_stations.specs.Legs.{BeginsAnswer, obeyed_in, after_command}
+use Rattle.bus_model.specs.World.{Trace, is_present, ticks_on}
+use Rattle.bus_law_line.specs.Senders.{LeftAlone}
+use Rattle.bus_law_stations.specs.Silence.{quiet_pairs, AwaitsFirst}
+use Rattle.bus_law_stations.specs.Legs.{obeyed_in, after_command}
 use Rattle.bus_law_stations.specs.Turns.{moments_of}
 use Rattle.bus_law_stations.proofs.LegTicks.{heard-append, heeded-later}
-use Rattle.bus_law_stations.proofs.Ready.{three-first}
-use Rattle.bus_law_stations.proofs.Resting.{heard-quiet, rests-quiet}
 use Rattle.bus_law_stations.proofs.StillController.{pairs-long}
-use Rattle.bus_law_stations.proofs.StillStation.{still-so-far, still-after, still-terminal, still-quiet}
 use Rattle.bus_law_messages.specs.Settled.{IsServing, Settled, NoneTakes}
 use Rattle.bus_law_messages.specs.Ends.{burst_sent, HeardCommand, CommandOver}
-use Rattle.bus_law_messages.specs.Answers.{IsWaiting, IsAnswering, AnswerDue, LeavesNothing}
+use Rattle.bus_law_messages.specs.Answers.{AnswerDue, LeavesNothing}
 use Rattle.bus_law_messages.proofs.Listening.{moments-shown}
-use Rattle.bus_law_messages.proofs.Sending.{place-silent, place-drives}
-use Rattle.bus_law_messages.proofs.Heard.{hearing-long}
 use Rattle.bus_law_messages.proofs.Unanswered.{serving-again}
 use Rattle.bus_law_messages.proofs.Awaiting.{awaits-quiet}
-use Rattle.bus_law_messages.proofs.Midway.{Waits, waits-on, mid-long as end-long, rests-over, mid-rests as both-rest, mid-spent, mid-undriven, mid-waits}
+use Rattle.bus_law_messages.proofs.Midway.{mid-long as end-long, rests-over, mid-rests as both-rest, mid-spent, mid-undriven, mid-waits}
 use Rattle.bus_law_messages.proofs.OwesOn.{OwesAnswer}
 use Rattle.bus_law_messages.proofs.PauseToReply.{Awaited, holding-then, replies-then, pauses, rests-then, undriven-then, spent-then}
-use Rattle.bus_law_messages.proofs.Pausing.{on-quiet, same-course, holder-silent, serving-still, serving-quiet, paused, undriven-still}
+use Rattle.bus_law_messages.proofs.Pausing.{on-quiet, serving-still, serving-quiet}
 
 module _ (k : ℕ) (plan : PlanData) (loads : List TimedLoad) (outside : List OutsideTake) (absent : List ℕ) (before : Trace) (place : ℕ)
     (holder : StationData) (begun : Begun) (hits : List Hit) (ticks : List Pair) (sent silent : List (List Drive))

@@ -1,16 +1,14 @@
 -- A moment in which a message waits for an answer that one station owes, and the quiet ticks until that answer is due.
-use Rattle.std.proofs.Common.{◌≡◌, ◌≢◌, ◌⊎◌, inl, inr, ℕ, zero, suc, ◌+◌, ◌<◌, ◌≤◌, Bool, true, false, List, [], ◌∷◌, ◌++◌, length, Some, None, sym, ap, ◌∙◌, subst, arith}
+use Rattle.std.proofs.Common.{◌≡◌, ◌≢◌, inl, inr, ℕ, zero, suc, ◌+◌, ◌<◌, ◌≤◌, true, false, List, [], ◌∷◌, ◌++◌, length, Some, sym, ap, ◌∙◌, subst, arith}
 use Rattle.std.proofs.lemmas.Bool.{cases_eq}
 use Rattle.std.proofs.lemmas.Option.{same_Some, none-some}
 use Rattle.std.specs.Prelude.{slice_get}
 use Rattle.bus_base.specs.declared.samples.Channel.{Channel}
 use Rattle.bus_base.specs.declared.samples.Drive.{Drive}
 use Rattle.bus_base.specs.declared.samples.Drive.TheVariants.{Silent}
-use Rattle.bus_base.specs.declared.samples.Pair.{Pair}
 use Rattle.bus_base.specs.declared.samples.Part.{Part}
-use Rattle.bus_base.specs.declared.samples.Sample.{Sample}
 use Rattle.bus_words.specs.declared.word.Word.{Word}
-use Rattle.bus_line.specs.Past.{quiet_ticks, runs}
+use Rattle.bus_line.specs.Past.{runs}
 use Rattle.bus_line.specs.Channels.{on_channel}
 use Rattle.bus_formats.specs.Plans.{StationData, PlanData}
 use Rattle.bus_formats.specs.Times.{no_response}
@@ -24,8 +22,7 @@ use Rattle.bus_model.specs.Control.{OutsideTake, yielded_in, outside_takes, cour
 use Rattle.bus_model.specs.World.{Trace, is_present, drives_after, ticks_on}
 use Rattle.bus_law_line.specs.Senders.{IsSpent, LeftAlone}
 use Rattle.bus_law_line.proofs.Sent.{left-spent}
-use Rattle.bus_law_stations.specs.Silence.{quiet_pair, quiet_pairs, AwaitsFirst, AwaitsSecond, NothingStarts}
-use Rattle.bus_law_stations.specs.Messages.{IsAnswered}
+use Rattle.bus_law_stations.specs.Silence.{quiet_pairs, NothingStarts}
 use Rattle.bus_law_stations.proofs.Resting.{quiet-on, rests-quiet}
 use Rattle.bus_law_stations.proofs.StillController.{Awaits, awaits-stays, pairs-long}
 use Rattle.bus_law_messages.specs.Settled.{NoneTakes}

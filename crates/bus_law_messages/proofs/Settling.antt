@@ -1,25 +1,23 @@
 -- What the end of a burst leaves of a station that listened: it is free; or it owes an answer; or it promised to take the next burst.
-use Rattle.std.proofs.Common.{◌≡◌, ◌⊎◌, inl, inr, ℕ, suc, ◌+◌, ◌<◌, ◌≤◌, Bool, true, false, List, ◌++◌, length, Option, Some, None, refl, sym, ap, ◌∙◌, subst, arith, length-append}
+use Rattle.std.proofs.Common.{◌≡◌, ◌⊎◌, inl, inr, ℕ, suc, ◌+◌, ◌<◌, ◌≤◌, Bool, true, false, List, ◌++◌, length, Some, None, refl, sym, ap, ◌∙◌, subst, arith}
 use Rattle.std.proofs.lemmas.Bool.{true≢false}
-use Rattle.std.proofs.lemmas.Option.{none-some, same_Some}
 use Rattle.std.specs.Prelude.{is_some}
 use Rattle.bus_base.specs.Samples.{other_of}
 use Rattle.bus_base.specs.declared.samples.Channel.{Channel}
 use Rattle.bus_base.specs.declared.samples.Pair.{Pair}
-use Rattle.bus_base.specs.declared.samples.Part.TheVariants.{First, Second}
+use Rattle.bus_base.specs.declared.samples.Part.TheVariants.{Second}
 use Rattle.bus_base.specs.declared.samples.Sample.{Sample}
 use Rattle.bus_words.specs.declared.word.Word.{Word}
 use Rattle.bus_line.specs.Past.{Burst, runs, end_of, rest_of, end_since}
 use Rattle.bus_line.specs.Channels.{on_channel}
 use Rattle.bus_formats.specs.Plans.{TerminalData, StationData}
-use Rattle.bus_model.specs.Waits.{relay_wait}
 use Rattle.bus_model.specs.Memory.{TimedLoad}
 use Rattle.bus_model.specs.Orders.{Duty, owes, promises, Obeyed, Order, last_order, due_after}
 use Rattle.bus_model.specs.Orders as orders
 use Rattle.bus_model.specs.Hearing.{Moment, Hearing, heard_on}
-use Rattle.bus_model.specs.Standing.{Standing, mark_on, superseded, is_from, ignored_from, is_owed, is_promise}
+use Rattle.bus_model.specs.Standing.{Standing, mark_on, is_from, ignored_from, is_owed, is_promise}
 use Rattle.bus_model.specs.Starts.{has_items}
-use Rattle.bus_model.specs.Terminal.{standing, standing_after}
+use Rattle.bus_model.specs.Terminal.{standing_after}
 use Rattle.bus_model.specs.Course.{Course}
 use Rattle.bus_model.specs.Control.{OutsideTake, course_after, hearing_after}
 use Rattle.bus_law_stations.specs.Legs.{obeyed_in, settled_in, after_command, after_promise}

@@ -25,7 +25,7 @@ use Rattle.bus_model.specs.Course.{Take, Course, course, gives, close, close_or_
 use Rattle.bus_model.specs.Control.{OutsideTake, is_yielded, yielded_in, so_far, course_after, drives_next}
 use Rattle.bus_law_stations.specs.Messages.{ShowsBurst, IsAnswered}
 use Rattle.bus_law_stations.specs.Turns.{KeepsControl}
-use Rattle.bus_law_stations.proofs.Reading.{answer-runs, answer-silent, first-is-read, second-is-read, first-is-relayed}
+use Rattle.bus_law_stations.proofs.Reading.{answer-runs, answer-silent, first-is-read, second-is-read, first-is-relayed, relayed-status}
 use Rattle.bus_law_stations.proofs.StillStation.{always-taken}
 use Rattle.bus_law_stations.proofs.Turning.{holding-course, holding-sends}
 use Rattle.bus_law_messages.specs.Answers.{IsWaiting}
@@ -147,9 +147,13 @@ module _ (k : ℕ) (station : StationData) (starts : Bool) (loads : List TimedLo
     -- a good first one of a relay is followed by the wait for the second
     pub relayed-course : k < 24 → AwaitsFirst k begun (on_channel begun.state.channel past) e → (shape : Shape) (status : ℕ) →
         read_answer begun.entry.item.kind First burst.slots (rest_of burst) ≡ Good status → (answers_of begun.entry.item.kind).second ≡ Some shape →
-        (w : AwaitsSecond k begun (on_channel begun.state.channel (x ∷ (ticks ++ past))) (end_of burst))
+        (v : AwaitsSecond k begun (on_channel begun.state.channel (x ∷ (ticks ++ past))) (end_of burst))
+        × (v.status ≡ status)
         × (course_after k station starts loads outside ((x ∷ ticks) ++ past) ≡ c)
     relayed-course small w shape status good second =
         let long : length (ticks ++ past) ≡ length ticks + length past = length-append ticks past in
-        let r = first-is-relayed k station starts takes past begun e taken answered small w ticks x burst shape status (shows ticks alone) ended good second in
-        (r.1, end-course c r.0 (held.before (length (ticks ++ past)) (omega (arith, long))))
+        let r = first-is-relayed k station starts takes past begun e taken answered small w ticks x burst shape status (shows ticks alone) ended good second in (
+          r.1,
+          relayed-status k station starts takes past begun e taken answered small w ticks x burst shape status (shows ticks alone) ended good second,
+          end-course c r.0 (held.before (length (ticks ++ past)) (omega (arith, long))),
+        )

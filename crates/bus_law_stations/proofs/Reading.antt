@@ -187,3 +187,13 @@ module _ (k : ℕ) (station : StationData) (starts : Bool) (takes : List Take) (
           silent = silent;
         },
       )
+
+  -- it keeps the status that was read
+  pub relayed-status : (small : k < 24) (w : AwaitsFirst k begun (on_channel begun.state.channel past) e) (ticks : List Pair) (now : Pair) (burst : Burst)
+      (shape : Shape) (status : ℕ) (shows : ShowsBurst k begun.state.channel past ticks)
+      (ended : ended_now k (on_channel begun.state.channel (now ∷ (ticks ++ past))) ≡ Some burst)
+      (good : read_answer begun.entry.item.kind First burst.slots (rest_of burst) ≡ Good status)
+      (second : (answers_of begun.entry.item.kind).second ≡ Some shape) →
+      (first-is-relayed small w ticks now burst shape status shows ended good second).1.status ≡ status
+  unfolding first-is-relayed
+  relayed-status small w ticks now burst shape status shows ended good second = refl
