@@ -36,6 +36,7 @@ use Rattle.bus_law_messages.specs.Answers.{AnswerDue, clear_with, LeavesNothing,
 use Rattle.bus_law_messages.specs.AnswerRead.{AnswerRead}
 use Rattle.bus_law_messages.proofs.AnswerEnds.{read-at}
 use Rattle.bus_law_messages.proofs.Closing.{and-not}
+use Rattle.bus_law_messages.proofs.KeptReadings.{reading-keeps, at-once}
 
 -- ---- a good answer
 
@@ -60,93 +61,7 @@ answer-at k plan loads outside absent t place holder begun e answerer answering 
     nothing in
     (o.0, o.1, o.2, record { ends = o.3.ends; controls = o.3.controls; others = o.3.others }, o.4, o.5)
 
--- ---- which readings keep control
-
--- a reading that ends the message keeps control
-abbrev keeps : Reading → Bool
-keeps (Good status) = true
-keeps (Ends outcome status) = not (gives outcome)
-
-if-keeps : (b : Bool) (r q : Reading) → keeps r ≡ true → keeps q ≡ true → keeps (if b then r else q) ≡ true
-if-keeps true r q first second = first
-if-keeps false r q first second = second
-
-refusal-keeps : (alone : Option ℕ) → keeps (read_refusal First alone) ≡ true
-refusal-keeps None = refl
-refusal-keeps (Some status) = if-keeps (flags_in status).message_error (Ends (Illegal First) (Some status)) (Ends (BadReply First) None) refl refl
-
-status-keeps : (alone : Option ℕ) → keeps (read_status First alone) ≡ true
-status-keeps None = refl
-status-keeps (Some status) = refl
-
-mode-keeps : (reports : Bool) (full alone : Option ℕ) → keeps (read_mode First reports full alone) ≡ true
-mode-keeps reports None alone = refusal-keeps alone
-mode-keeps reports (Some status) alone =
-    if-keeps (not (flags_in status).message_error || reports) (Good status) (read_refusal First alone) refl (refusal-keeps alone)
-
-full-keeps : (full : Option ℕ) → keeps (read_full First full) ≡ true
-full-keeps None = refl
-full-keeps (Some status) =
-    if-keeps ((flags_in status).message_error || (flags_in status).busy) (Ends (BadReply First) None) (Good status) refl refl
-
-data-keeps : (alone full : Option ℕ) → keeps (read_data First alone full) ≡ true
-data-keeps None full = full-keeps full
-data-keeps (Some status) full =
-    if-keeps (flags_in status).message_error (Ends (Illegal First) (Some status))
-    (if (flags_in status).busy then Ends (Busy First) (Some status) else read_full First full) refl
-    (if-keeps (flags_in status).busy (Ends (Busy First) (Some status)) (read_full First full) refl (full-keeps full))
-
-by-keeps : (kind : Kind) (alone full : Option ℕ) → is_offer kind ≡ false → keeps (read_by First kind alone full) ≡ true
-by-keeps (Receive to sub words) alone full plain = data-keeps alone full
-by-keeps (Transmit from sub count) alone full plain = data-keeps alone full
-by-keeps (Relay from from_sub to to_sub count) alone full plain = data-keeps alone full
-by-keeps (Mode to mode_sub transmit code word) alone full plain =
-    let others : Reading = if transmit && (code == transmit_status_word) then read_status First alone
-    else read_mode First (transmit && (code == transmit_last_command)) full alone in
-    ap (λ (b : Bool). keeps (if b then read_offer First alone else others)) plain
-    ∙ if-keeps (transmit && (code == transmit_status_word)) (read_status First alone)
-    (read_mode First (transmit && (code == transmit_last_command)) full alone) (status-keeps alone)
-    (mode-keeps (transmit && (code == transmit_last_command)) full alone)
-
-shape-keeps : (kind : Kind) (shape : Option Shape) (slots : List (Option Word)) (rest : ℕ) → is_offer kind ≡ false →
-    keeps (read_shape First kind shape slots rest) ≡ true
-shape-keeps kind None slots rest plain = refl
-shape-keeps kind (Some shape) slots rest plain = by-keeps kind (status_alone shape slots rest) (status_full shape slots rest) plain
-
-kept-of : (outcome : Outcome) → not (gives outcome) ≡ true → gives outcome ≡ false
-kept-of Clear is = refl
-kept-of Sent is = refl
-kept-of Declined is = refl
-kept-of Passed is = absurd (true≢false (sym is))
-kept-of (Illegal part) is = refl
-kept-of (Busy part) is = refl
-kept-of (NoResponse part) is = refl
-kept-of (BadReply part) is = refl
-kept-of Abandoned is = refl
-kept-of Yielded is = absurd (true≢false (sym is))
-
--- an answer to a message that is no offer
-reading-keeps : (kind : Kind) (slots : List (Option Word)) (rest : ℕ) (outcome : Outcome) (status : Option ℕ) → is_offer kind ≡ false →
-    read_answer kind First slots rest ≡ Ends outcome status → gives outcome ≡ false
-reading-keeps kind slots rest outcome status plain is =
-    kept-of outcome (sym (ap keeps is) ∙ shape-keeps kind (shape_in First (answers_of kind)) slots rest plain)
-
 -- ---- an answer that ends its message otherwise
-
--- at once, unless it is a bad answer to an offer
-at-once : (k : ℕ) (item : ItemData) (shown : List Pair) (heard : List Sample) (burst : Burst) (offer : Bool) (outcome : Outcome) (status : Option ℕ) →
-    (offer && is_bad (Ends outcome status)) ≡ false → read_ending k item shown heard burst offer outcome status ≡ ended_so outcome status None
-at-once k item shown heard burst false outcome status is = refl
-at-once k item shown heard burst true Clear status is = refl
-at-once k item shown heard burst true Sent status is = refl
-at-once k item shown heard burst true Declined status is = refl
-at-once k item shown heard burst true Passed status is = refl
-at-once k item shown heard burst true (Illegal part) status is = refl
-at-once k item shown heard burst true (Busy part) status is = refl
-at-once k item shown heard burst true (NoResponse part) status is = refl
-at-once k item shown heard burst true (BadReply part) status is = absurd (true≢false is)
-at-once k item shown heard burst true Abandoned status is = refl
-at-once k item shown heard burst true Yielded status is = refl
 
 pub ends-at : (k : ℕ) (plan : PlanData) (loads : List TimedLoad) (outside : List OutsideTake) (absent : List ℕ) (t place : ℕ) (holder : StationData)
     (begun : Begun) (e answerer : ℕ) (answering : StationData) (words : List Word) (hits : List Hit) (outcome : Outcome) (status : Option ℕ) → k < 40 →
@@ -185,7 +100,7 @@ plain-ends-at k plan loads outside absent t place holder begun e answerer answer
     nothing =
     ends-at k plan loads outside absent t place holder begun e answerer answering words hits outcome status small due stays whole some added reads
     (ap (λ b. b && is_bad (Ends outcome status)) plain)
-    (reading-keeps begun.entry.item.kind (slots_shown hits 0 words) 0 outcome status plain reads) nothing
+    (reading-keeps First begun.entry.item.kind (slots_shown hits 0 words) 0 outcome status plain reads) nothing
 
 pub offer-ends-at : (k : ℕ) (plan : PlanData) (loads : List TimedLoad) (outside : List OutsideTake) (absent : List ℕ) (t place : ℕ) (holder : StationData)
     (begun : Begun) (e answerer : ℕ) (answering : StationData) (words : List Word) (hits : List Hit) (outcome : Outcome) (status : Option ℕ) → k < 40 →

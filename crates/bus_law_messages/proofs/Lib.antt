@@ -36,3 +36,5 @@ pub mod Settling
 pub mod Transmitting
 pub mod RelayEnds
 pub mod RelayWaits
+pub mod KeptReadings
+pub mod RelayOtherwise

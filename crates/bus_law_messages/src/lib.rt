@@ -26,7 +26,7 @@ pub use first_path::a_block_is_sent_taken_and_cleared;
 pub use pauses::{the_world_begins_settled, the_world_pauses_until_a_message_starts};
 pub use relays::{
     a_good_answer_clears_a_broadcast_relay, a_good_second_answer_clears_its_relay,
-    a_receiver_answers_when_due, a_transmitter_answers_when_due,
+    a_receiver_answers_when_due, a_transmitter_answers_when_due, an_answer_ends_its_relay,
 };
 pub use shapes::{
     a_good_answer_clears_its_message, a_message_without_answer_is_sent, an_answer_comes_due,

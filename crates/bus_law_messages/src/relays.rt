@@ -1,7 +1,7 @@
 //! Relays: a transmitter's words go to terminals that promised to take them (MIL-STD-1553B 4.3.3.6.3). Laws alone, each the contract of an empty
 //! function.
 
-ghost use Rattle.std.specs.Prelude.{◌≡◌, ◌≢◌, ℕ, suc, ◌+◌, ◌*◌, ◌<◌, ◌≤◌, true, false, List, ◌++◌, length, slice_get, Some, None};
+ghost use Rattle.std.specs.Prelude.{◌≡◌, ◌≢◌, ℕ, suc, ◌+◌, ◌*◌, ◌<◌, ◌≤◌, true, false, List, ◌++◌, length, slice_get, Option, Some, None};
 ghost use Rattle.bus_base.specs.declared.samples.Drive.{Drive};
 ghost use Rattle.bus_base.specs.declared.samples.Pair.{Pair};
 ghost use Rattle.bus_base.specs.declared.samples.Part.TheVariants.{Command, First, Second};
@@ -13,7 +13,8 @@ ghost use Rattle.bus_formats.specs.Readings.{read_answer};
 ghost use Rattle.bus_formats.specs.Times.{no_response};
 ghost use Rattle.bus_formats.specs.declared.form.Outcome.TheVariants.{Clear};
 ghost use Rattle.bus_formats.specs.declared.form.Shape.{Shape};
-ghost use Rattle.bus_formats.specs.declared.form.Reading.TheVariants.{Good};
+ghost use Rattle.bus_formats.specs.declared.form.Outcome.{Outcome};
+ghost use Rattle.bus_formats.specs.declared.form.Reading.TheVariants.{Good, Ends};
 ghost use Rattle.bus_formats.specs.Plans.{StationData, PlanData};
 ghost use Rattle.bus_formats.specs.declared.fault.Hit.{Hit};
 ghost use Rattle.bus_model.specs.Memory.{TimedLoad};
@@ -22,7 +23,7 @@ ghost use Rattle.bus_model.specs.Standing.{Standing};
 ghost use Rattle.bus_model.specs.Terminal.{standing_after};
 ghost use Rattle.bus_model.specs.Starts.{Entry, starts, has_items};
 ghost use Rattle.bus_model.specs.Strikes.{added_by};
-ghost use Rattle.bus_model.specs.Attempts.{Begun, without_words};
+ghost use Rattle.bus_model.specs.Attempts.{Begun, without_words, is_offer};
 ghost use Rattle.bus_model.specs.Course.{Course, close};
 ghost use Rattle.bus_model.specs.Control.{OutsideTake, course_after, hearing_after};
 ghost use Rattle.bus_model.specs.World.{Trace, trace, is_present};
@@ -142,4 +143,44 @@ pub fn a_good_second_answer_clears_its_relay()
         × (course_after k holder (starts plan holder) loads outside after.shown
         ≡ close (course_after k holder (starts plan holder) loads outside before.shown) begun (without_words Clear (Some status) (Some second))
         (end_of burst + k)) }
+{}
+
+/// An answer of a relay that isn't good ends its message as it is read, Illegal, Busy or BadReply: the first one, or the second one, with the first
+/// one's status. The world is settled again, in the same hands, where nobody owes anything more. At every lag below a slot's forty ticks, for any loads,
+/// with any stations absent.
+pub fn an_answer_ends_its_relay()
+    ensures first { (k : ℕ) (plan : PlanData) (loads : List TimedLoad) (outside : List OutsideTake) (absent : List ℕ) (t place : ℕ)
+        (holder : StationData) (begun : Begun) (e answerer : ℕ) (answering : StationData) (words : List Word) (hits : List Hit) (outcome : Outcome)
+        (ends : Option ℕ) → k < 40 → let before : Trace = trace k plan loads outside absent t in
+        let burst : Burst = burst_sent t hits words in
+        let after : Trace = trace k plan loads outside absent (t + (40 * length words + suc k)) in
+        ReplyDue k plan loads outside absent before place holder begun First e answerer answering words →
+        AwaitsFirst k begun (on_channel begun.state.channel before.shown) e →
+        NoneTakes k plan loads outside place t (t + (40 * length words + suc k)) → LeavesWhole plan.faults First before.driven hits words →
+        0 < length words → added_by hits ≡ 0 → read_answer begun.entry.item.kind First (slots_shown hits 0 words) 0 ≡ Ends outcome ends →
+        is_offer begun.entry.item.kind ≡ false →
+        LeavesSettled k plan loads outside absent before.shown place answerer answerer begun.state.channel burst →
+        (ticks : List Pair) × (sent : List (List Drive)) × (silent : List (List Drive))
+        × ReplyOver k plan loads outside absent before place begun.state.channel First answerer words hits t ticks sent silent
+        × (after ≡ record { shown = ticks ++ before.shown; driven = silent ++ (sent ++ before.driven) })
+        × Settled k plan loads outside absent after place holder
+        × (course_after k holder (starts plan holder) loads outside after.shown
+        ≡ close (course_after k holder (starts plan holder) loads outside before.shown) begun (without_words outcome ends None) (end_of burst + k)) }
+    ensures second { (k : ℕ) (plan : PlanData) (loads : List TimedLoad) (outside : List OutsideTake) (absent : List ℕ) (t place : ℕ)
+        (holder : StationData) (begun : Begun) (e answerer : ℕ) (answering : StationData) (words : List Word) (hits : List Hit) (status : ℕ) (outcome : Outcome)
+        (ends : Option ℕ) → k < 40 → let before : Trace = trace k plan loads outside absent t in
+        let burst : Burst = burst_sent t hits words in
+        let after : Trace = trace k plan loads outside absent (t + (40 * length words + suc k)) in
+        ReplyDue k plan loads outside absent before place holder begun Second e answerer answering words →
+        (w : AwaitsSecond k begun (on_channel begun.state.channel before.shown) e) → w.status ≡ status →
+        NoneTakes k plan loads outside place t (t + (40 * length words + suc k)) → LeavesWhole plan.faults Second before.driven hits words →
+        0 < length words → added_by hits ≡ 0 → read_answer begun.entry.item.kind Second (slots_shown hits 0 words) 0 ≡ Ends outcome ends →
+        is_offer begun.entry.item.kind ≡ false →
+        LeavesSettled k plan loads outside absent before.shown place answerer answerer begun.state.channel burst →
+        (ticks : List Pair) × (sent : List (List Drive)) × (silent : List (List Drive))
+        × ReplyOver k plan loads outside absent before place begun.state.channel Second answerer words hits t ticks sent silent
+        × (after ≡ record { shown = ticks ++ before.shown; driven = silent ++ (sent ++ before.driven) })
+        × Settled k plan loads outside absent after place holder
+        × (course_after k holder (starts plan holder) loads outside after.shown
+        ≡ close (course_after k holder (starts plan holder) loads outside before.shown) begun (without_words outcome (Some status) ends) (end_of burst + k)) }
 {}
