@@ -38,3 +38,4 @@ pub mod RelayEnds
 pub mod RelayWaits
 pub mod KeptReadings
 pub mod RelayOtherwise
+pub mod Promising

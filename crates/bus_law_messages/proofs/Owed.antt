@@ -80,7 +80,7 @@ relay-none own command [] = refl
 relay-none own command (word ∷ []) = refl
 relay-none own command (word ∷ next ∷ words) = refl
 
-data-whole : (words : List ℕ) → data_in (length words) (whole_slots (map data_word words)) ≡ Some words
+pub data-whole : (words : List ℕ) → data_in (length words) (whole_slots (map data_word words)) ≡ Some words
 data-whole [] = refl
 data-whole (word ∷ words) = rw (data-whole words) refl
 
@@ -107,7 +107,7 @@ or-on : (a : Bool) → (a || true) ≡ true
 or-on true = refl
 or-on false = refl
 
-answer-free : (terminal : TerminalData) (r : Registers) (c : Channel) (command : ℕ) (acceptance : Bool) (words : List ℕ) →
+pub answer-free : (terminal : TerminalData) (r : Registers) (c : Channel) (command : ℕ) (acceptance : Bool) (words : List ℕ) →
     (is_broadcast command ≡ true) ⊎ (is_off r c ≡ true) → answer terminal r c command acceptance words ≡ free
 answer-free terminal r c command acceptance words (inl all) =
     ap (λ (b : Bool). if b || is_off r c then free else owes (with_data (status_of terminal r acceptance) words) acceptance) all

@@ -34,7 +34,7 @@ use Rattle.bus_law_messages.proofs.Owed.{skips, loads-registers, relay-none, car
 use Rattle.bus_law_messages.proofs.Received.{receives}
 use Rattle.bus_law_messages.proofs.Named.{plain-mode, OneCommand, receive-command, one-command, no-answer, order-is}
 
-no-rest : (t : ℕ) (words : List Word) → rest_of (burst_sent t [] words) ≡ 0
+pub no-rest : (t : ℕ) (words : List Word) → rest_of (burst_sent t [] words) ≡ 0
 no-rest t words = let none : 40 * length words % 40 ≡ 0 = omega arith in none
 
 -- ---- a command with its data words
@@ -58,7 +58,7 @@ obeyed-free terminal memory c bits words may none =
     ap (λ o. (obey_tail terminal memory c bits may (tail_by o found)).duty) (relay-none terminal.address bits words)
     ∙ tail-free terminal memory c bits may found none
 
-not-all : (bits address : ℕ) → address_of bits ≡ address → address ≢ 31 → is_broadcast bits ≡ false
+pub not-all : (bits address : ℕ) → address_of bits ≡ address → address ≢ 31 → is_broadcast bits ≡ false
 not-all bits address at apart = grind (arith, nat_tests, at, apart)
 
 to-all : (bits address : ℕ) → address_of bits ≡ address → address ≡ 31 → is_broadcast bits ≡ true

@@ -11,6 +11,7 @@ pub mod duties;
 pub mod endings;
 pub mod first_path;
 pub mod pauses;
+pub mod promises;
 pub mod relays;
 pub mod shapes;
 pub mod unstruck;
@@ -24,6 +25,10 @@ pub use duties::{
 pub use endings::{an_answer_ends_its_message, an_unanswered_message_ends_without_response};
 pub use first_path::a_block_is_sent_taken_and_cleared;
 pub use pauses::{the_world_begins_settled, the_world_pauses_until_a_message_starts};
+pub use promises::{
+    a_kept_promise_is_answered_by_a_status, a_relays_command_leaves_promises,
+    a_relays_receiver_promises,
+};
 pub use relays::{
     a_good_answer_clears_a_broadcast_relay, a_good_second_answer_clears_its_relay,
     a_receiver_answers_when_due, a_transmitter_answers_when_due, an_answer_ends_its_relay,
