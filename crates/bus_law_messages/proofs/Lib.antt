@@ -39,3 +39,4 @@ pub mod RelayWaits
 pub mod KeptReadings
 pub mod RelayOtherwise
 pub mod Promising
+pub mod QuietEnds
