@@ -1,5 +1,5 @@
 -- The answer of a message that no fault strikes, its end known: the one that sent it, and the others, keep what they kept.
-use Rattle.std.proofs.Common.{◌≡◌, ◌≢◌, inl, inr, ℕ, suc, ◌+◌, ◌*◌, ◌<◌, ◌≤◌, true, List, [], ◌∷◌, ◌++◌, length, map, Some, None, refl, sym, ap, ◌∙◌, subst, arith, All}
+use Rattle.std.proofs.Common.{◌≡◌, ◌≢◌, inl, inr, ℕ, suc, ◌+◌, ◌*◌, ◌<◌, ◌≤◌, true, List, [], ◌∷◌, ◌++◌, length, map, Some, None, refl, sym, ap, ◌∙◌, subst, arith, All, false}
 use Rattle.std.proofs.lemmas.Bool.{cases_eq}
 use Rattle.std.proofs.lemmas.List.{length-map}
 use Rattle.std.proofs.lemmas.Option.{same_Some}
@@ -8,53 +8,50 @@ use Rattle.bus_base.specs.Samples.{other_of}
 use Rattle.bus_base.specs.declared.samples.Channel.{Channel}
 use Rattle.bus_base.specs.declared.samples.Drive.{Drive}
 use Rattle.bus_base.specs.declared.samples.Pair.{Pair}
-use Rattle.bus_base.specs.declared.samples.Part.TheVariants.{First}
 use Rattle.bus_base.specs.declared.samples.Sample.{Sample}
 use Rattle.bus_words.specs.declared.word.Word.{Word}
-use Rattle.bus_line.specs.Past.{Burst, quiet_ticks, ended_now, rest_of}
+use Rattle.bus_line.specs.Past.{Burst, quiet_ticks}
 use Rattle.bus_line.specs.Channels.{on_channel, bursts}
-use Rattle.bus_formats.specs.Forms.{answers_of}
 use Rattle.bus_formats.specs.Plans.{StationData, PlanData}
-use Rattle.bus_formats.specs.Readings.{read_answer}
-use Rattle.bus_formats.specs.declared.form.Reading.TheVariants.{Good}
 use Rattle.bus_model.specs.Memory.{TimedLoad}
 use Rattle.bus_model.specs.Message.{Present}
 use Rattle.bus_model.specs.Standing.{Standing}
 use Rattle.bus_model.specs.Starts.{starts}
 use Rattle.bus_model.specs.Terminal.{standing_after, took_now}
-use Rattle.bus_model.specs.Attempts.{Begun}
+use Rattle.bus_model.specs.Attempts.{Begun, Ended}
+use Rattle.bus_model.specs.Course.{gives}
 use Rattle.bus_model.specs.Control.{OutsideTake, outside_takes, course_after, hearing_after}
 use Rattle.bus_model.specs.World.{Trace, is_present}
 use Rattle.bus_model.specs.WorldLog.{present_after}
-use Rattle.bus_law_line.specs.Shown.{slots_shown}
 use Rattle.bus_law_line.proofs.WordSlots.{unstruck}
 use Rattle.bus_law_stations.specs.Turns.{KeepsControl}
 use Rattle.bus_law_messages.specs.Settled.{NoneTakes}
 use Rattle.bus_law_messages.specs.Ends.{burst_sent}
-use Rattle.bus_law_messages.specs.Answers.{AnswerDue, AnswerOver}
+use Rattle.bus_law_messages.specs.Answers.{AnswerDue}
+use Rattle.bus_law_messages.specs.AnswerRead.{AnswerRead}
 use Rattle.bus_law_messages.specs.Addressed.{IsForNoOther}
 use Rattle.bus_law_messages.proofs.Running.{RunsAlone}
 use Rattle.bus_law_table.specs.Stations.{loaded_at, HeardNothing}
 use Rattle.bus_law_table.specs.Happened.{burst_found, blocks_found}
 use Rattle.bus_law_table.proofs.Answerer.{answerer-keeps, answerer-course, answerer-ignores, answerer-takes}
 use Rattle.bus_law_table.proofs.AnswerKept.{answer-kept}
+use Rattle.bus_law_table.proofs.Kept.{closed-unyielded}
 use Rattle.bus_law_table.proofs.Quiet.{IsHere, TakesNone, blocks-none}
 use Rattle.bus_law_table.proofs.Still.{still-told}
 use Rattle.bus_law_table.proofs.Takes.{serving-takes, unheard-takes, unheard-on}
-use Rattle.bus_law_table.proofs.Ticks.{words-run, beside-quiet, words-ended, words-bursts}
+use Rattle.bus_law_table.proofs.Ticks.{words-run, beside-quiet, words-bursts}
 use Rattle.bus_law_table.proofs.Unstruck.{whole_burst}
 
 module _ (k : ℕ) (plan : PlanData) (loads : List TimedLoad) (outside : List OutsideTake) (absent : List ℕ) (before : Trace) (place : ℕ)
-    (holder : StationData) (begun : Begun) (e answerer : ℕ) (answering : StationData) (words : List Word) (status : ℕ) (small : k < 40)
+    (holder : StationData) (begun : Begun) (e answerer : ℕ) (answering : StationData) (words : List Word) (ended_so : Ended) (small : k < 40)
     (due : AnswerDue k plan loads outside absent before place holder begun e answerer answering words)
     (fit : All (λ (word : Word). word.bits < 65536) words) (some : 0 < length words)
     (stays : NoneTakes k plan loads outside place (length before.shown) (length before.shown + (40 * length words + suc k)))
     (unheard : HeardNothing k holder (starts plan holder) loads outside before.shown)
-    (good : read_answer begun.entry.item.kind First (slots_shown [] 0 words) 0 ≡ Good status)
-    (only : (answers_of begun.entry.item.kind).second ≡ None)
+    (stays_so : gives ended_so.outcome ≡ false)
     (passes : IsForNoOther plan absent place answerer (burst_sent (length before.shown) [] words)) (x : Pair) (ticks : List Pair)
     (sent silent : List (List Drive))
-    (over : AnswerOver k plan loads outside absent before place holder begun answerer words [] status (length before.shown) (x ∷ ticks) sent silent) where
+    (over : AnswerRead k plan loads outside absent before place holder begun answerer words [] ended_so (length before.shown) (x ∷ ticks) sent silent) where
   abbrev past : List Pair
   past = before.shown
 
@@ -76,17 +73,13 @@ module _ (k : ℕ) (plan : PlanData) (loads : List TimedLoad) (outside : List Ou
     beside-quiet k c [] words past x ticks some (unstruck words fit).0 due.rests over.ends.shown quiet,
   )
 
-  ended : ended_now k (on_channel c (x ∷ (ticks ++ past))) ≡ Some burst
-  ended = words-ended k c [] words past x ticks some (unstruck words fit).0 due.rests over.ends.shown quiet
-
-  no-rest : rest_of burst ≡ 0
-  no-rest = omega arith
-
   -- the station in control kept control
   pub kept : KeepsControl k holder (starts plan holder) loads outside past (x ∷ ticks)
   kept =
-      answer-kept k holder (starts plan holder) loads outside past begun e due.waits (due.rests c) x ticks burst status alone ended
-      (ap (read_answer begun.entry.item.kind First (slots_shown [] 0 words)) no-rest ∙ good) only
+      answer-kept k holder (starts plan holder) loads outside past begun e due.waits (due.rests c) x ticks alone
+      (closed-unyielded (course_after k holder (starts plan holder) loads outside past)
+      (course_after k holder (starts plan holder) loads outside (x ∷ (ticks ++ past))) begun ended_so (length past + 40 * length words + k)
+      (length (ticks ++ past)) over.controls stays_so)
 
   -- the burst that was shown
   pub answer-bursts : bursts k (x ∷ (ticks ++ past)) ≡ bursts k past ++ map burst_found (whole_burst c (length past) words ∷ [])

@@ -1,6 +1,7 @@
--- The station in control keeps control to the end of its command.
-use Rattle.std.proofs.Common.{◌≡◌, inl, inr, ℕ, ◌+◌, ◌<◌, Bool, false, List, ◌∷◌, ◌++◌, length, Some, ap, ◌∙◌, arith, length-append}
-use Rattle.std.specs.Prelude.{◌==◌}
+-- The station in control keeps control to the end of its command, and one tick more where it doesn't yield.
+use Rattle.std.proofs.Common.{◌≡◌, inl, inr, ℕ, ◌+◌, ◌<◌, Bool, true, false, List, ◌∷◌, ◌++◌, length, Some, refl, sym, ap, ◌∙◌, arith, length-append}
+use Rattle.std.proofs.lemmas.Bool.{true≢false}
+use Rattle.std.specs.Prelude.{◌==◌, ◌&&◌, if◌then◌else◌}
 use Rattle.bus_base.specs.declared.samples.Pair.{Pair}
 use Rattle.bus_line.specs.Past.{Burst, ended_now}
 use Rattle.bus_line.specs.Channels.{on_channel}
@@ -8,13 +9,17 @@ use Rattle.bus_formats.specs.Forms.{answers_of}
 use Rattle.bus_formats.specs.Plans.{StationData}
 use Rattle.bus_model.specs.Memory.{TimedLoad}
 use Rattle.bus_model.specs.Starts.{Entry}
-use Rattle.bus_model.specs.Course.{Course}
-use Rattle.bus_model.specs.Control.{OutsideTake, yielded_in, so_far, course_after}
+use Rattle.bus_formats.specs.declared.form.Outcome.{Outcome}
+use Rattle.bus_formats.specs.declared.form.Outcome.TheVariants.{Yielded}
+use Rattle.bus_model.specs.Attempts.{Begun, Ended}
+use Rattle.bus_model.specs.Course.{Course, gives, close}
+use Rattle.bus_model.specs.Control.{OutsideTake, StationSoFar, is_yielded, yielded_in, serve, hold, course_with, so_far, course_after}
 use Rattle.bus_law_stations.specs.Messages.{BeginsMessage, message_begun, ShowsBurst}
 use Rattle.bus_law_stations.specs.Turns.{KeepsControl}
 use Rattle.bus_law_stations.proofs.Commanding.{command-sent, command-waits}
 use Rattle.bus_law_stations.proofs.Resting.{cases-option}
 use Rattle.bus_law_stations.proofs.StillStation.{always-taken}
+use Rattle.bus_law_stations.proofs.Turning.{holding-hears, holding-course}
 use Rattle.bus_law_messages.specs.Settled.{InControl}
 use Rattle.bus_law_messages.proofs.Closing.{and-not}
 use Rattle.bus_law_messages.proofs.Holding.{still-holds, keeps-control, later_course}
@@ -43,3 +48,40 @@ command-kept k station starts loads outside past entry controls begins small x t
       unyielded,
       keeps-control k station starts loads outside past entry controls begins ticks shows,
     )
+
+-- ---- one tick more
+
+by-hold : (b : Bool) (x y : StationSoFar) → b ≡ true → (if b then x else y).takes ≡ x.takes
+by-hold b x y on = rw on refl
+
+module _ (k : ℕ) (station : StationData) (starts : Bool) (loads : List TimedLoad) (outside : List OutsideTake) (past ticks : List Pair)
+    (keeps : KeepsControl k station starts loads outside past ticks) (x : Pair)
+    (holds : (course_after k station starts loads outside (ticks ++ past)).holds ≡ true) where
+  same-takes : (so_far k station starts loads outside (x ∷ (ticks ++ past))).takes ≡ (so_far k station starts loads outside past).takes
+  unfolding so_far
+  same-takes =
+      let later = ticks ++ past in
+      let before = so_far k station starts loads outside (ticks ++ past) in
+      by-hold (course_with k station starts loads outside before.takes later).holds
+      (hold k station starts loads outside x later before (course_with k station starts loads outside before.takes (x ∷ later)))
+      (serve k station starts loads outside x later before (course_with k station starts loads outside before.takes later)) holds
+      ∙ ap (λ (so : StationSoFar). so.takes) (holding-hears k station starts loads outside past ticks keeps)
+
+  -- control is kept in a tick too after which it isn't yielded
+  pub kept-more : yielded_in (length (ticks ++ past)) (course_after k station starts loads outside (x ∷ (ticks ++ past))).ended ≡ false →
+      KeepsControl k station starts loads outside past (x ∷ ticks)
+  kept-more stays = (
+    ap (λ (d : Course). d.holds) (sym (holding-course k station starts loads outside past ticks keeps)) ∙ holds,
+    ap (λ takes. yielded_in (length (ticks ++ past)) (course_with k station starts loads outside takes (x ∷ (ticks ++ past))).ended) (sym same-takes) ∙ stays,
+    keeps,
+  )
+
+-- an attempt whose outcome gives no control away isn't yielded
+no-yield : (outcome : Outcome) → gives outcome ≡ false → is_yielded outcome ≡ false
+no-yield Yielded keeps = absurd (true≢false keeps)
+no-yield outcome keeps = refl
+
+pub closed-unyielded : (c d : Course) (begun : Begun) (e : Ended) (tick now : ℕ) → d ≡ close c begun e tick → gives e.outcome ≡ false →
+    yielded_in now d.ended ≡ false
+closed-unyielded c d begun e tick now is keeps =
+    ap (λ (x : Course). yielded_in now x.ended) is ∙ ap (λ b. (tick == now) && b) (no-yield e.outcome keeps) ∙ and-not (tick == now)

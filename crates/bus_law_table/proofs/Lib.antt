@@ -11,7 +11,7 @@ pub mod Closed
 pub mod CommandEnd
 pub mod SentTold
 pub mod SentAt
-pub mod AnsweredTable
+pub mod ReadTable
 pub mod Still
 pub mod Quiet
 pub mod Awaited
@@ -20,6 +20,9 @@ pub mod Answerer
 pub mod AnswerEnd
 pub mod OneOwes
 pub mod ClosedAll
-pub mod ClearTold
-pub mod ClearAt
-pub mod ClearLaw
+pub mod ReadTold
+pub mod AnswerAwaited
+pub mod ReadAt
+pub mod ReadFrom
+pub mod ReadLaw
+pub mod ReadKinds

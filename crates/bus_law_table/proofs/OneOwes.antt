@@ -21,7 +21,7 @@ use Rattle.bus_law_stations.proofs.Resting.{cases-option}
 use Rattle.bus_law_messages.specs.Answers.{LeavesNothing}
 use Rattle.bus_law_table.specs.Stations.{IsNamedApart}
 use Rattle.bus_law_table.proofs.AllStations.{IsTold}
-use Rattle.bus_law_table.proofs.AnsweredTable.{answer_of, IsOwing, one-owes, PromisesNot}
+use Rattle.bus_law_table.proofs.ReadTable.{answer_of, IsOwing, one-owes, PromisesNot}
 use Rattle.bus_law_table.proofs.OneStation.{CommandTold}
 use Rattle.bus_law_table.proofs.Pairing.{Each, Beside, beside-so, each-map, each-other, has-filter}
 

@@ -4,4 +4,7 @@
 
 pub mod messages;
 
-pub use messages::{a_message_with_a_good_answer_is_told, a_message_without_answer_is_told};
+pub use messages::{
+    a_message_whose_answer_ends_it_is_told, a_message_with_a_good_answer_is_told,
+    a_message_without_answer_is_told,
+};

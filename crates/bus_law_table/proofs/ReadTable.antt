@@ -1,7 +1,8 @@
--- The message table for a message with one answer, which is good, of an attempt that no fault names.
-use Rattle.std.proofs.Common.{◌≡◌, ◌⊎◌, inl, inr, ℕ, ◌+◌, ◌<◌, false, List, [], ◌∷◌, ◌++◌, length, map, Some, None, refl, sym, ap, ◌∙◌, arith}
+-- The message table for a message with one answer, which ends it, of an attempt that no fault names.
+use Rattle.std.proofs.Common.{◌≡◌, ◌⊎◌, inl, inr, ℕ, ◌+◌, ◌<◌, Bool, true, false, List, [], ◌∷◌, ◌++◌, length, map, Some, None, refl, sym, ap, ◌∙◌, arith, Option}
 use Rattle.std.proofs.lemmas.List.{append-nil}
-use Rattle.std.specs.Prelude.{option_map}
+use Rattle.std.proofs.lemmas.Bool.{true≢false}
+use Rattle.std.specs.Prelude.{◌&&◌, option_map}
 use Rattle.std.specs.Option.{option_or}
 use Rattle.bus_base.specs.declared.samples.Channel.{Channel}
 use Rattle.bus_base.specs.declared.samples.Part.TheVariants.{First, Second}
@@ -11,12 +12,16 @@ use Rattle.bus_formats.specs.Plans.{StationData, ItemData}
 use Rattle.bus_formats.specs.Readings.{read_answer}
 use Rattle.bus_formats.specs.declared.fault.Fault.{Fault}
 use Rattle.bus_formats.specs.declared.form.Shape.{Shape}
-use Rattle.bus_formats.specs.declared.form.Outcome.TheVariants.{Clear}
-use Rattle.bus_formats.specs.declared.form.Reading.TheVariants.{Good}
+use Rattle.bus_formats.specs.declared.form.Outcome.TheVariants.{Clear, Passed, BadReply}
+use Rattle.bus_formats.specs.declared.form.Reading.TheVariants.{Good, Ends}
+use Rattle.bus_formats.specs.declared.plan.Kind.{Kind}
+use Rattle.bus_formats.specs.declared.form.Outcome.{Outcome}
 use Rattle.bus_model.specs.Memory.{TimedLoad}
-use Rattle.bus_model.specs.Attempts.{Ended, without_words, kept_words}
+use Rattle.bus_model.specs.Attempts.{Ended, without_words, is_offer, kept_words}
+use Rattle.bus_model.specs.Controller.{is_bad}
+use Rattle.bus_model.specs.Course.{gives}
 use Rattle.bus_model.specs.Counted.{is_counted}
-use Rattle.bus_model.specs.Endings.{ends_so, good_ending, first_read, first_ending, ending_by, ending_of}
+use Rattle.bus_model.specs.Endings.{ends_so, good_ending, read_ending, first_read, first_ending, ending_by, ending_of}
 use Rattle.bus_model.specs.Message.{Present, After, Message, delivered, answer_to, answer_for, blocks_taken, after_answer, after_answer_of, after_command, message_by, ended_message, message_obeyed, message}
 use Rattle.bus_model.specs.Orders.{free, owes, due_after}
 use Rattle.bus_model.specs.Strikes.{hits_on, ShownBurst, burst_end, Answer, ShownAnswer, shown_with, shown_answer}
@@ -96,7 +101,7 @@ shown-whole answer word words is =
     ∙ sym (ap (λ ws. Some (record { sent = answer; hits = []; burst = whole_burst answer.channel answer.start ws })) is)
 
 module _ (k : ℕ) (loads : List TimedLoad) (faults : List Fault) (attempt : ℕ) (item : ItemData) (unstruck : IsUnstruck faults attempt) (channel : Channel)
-    (start : ℕ) (stations : List Present) (answering : StationData) (words : List Word) (status : ℕ) where
+    (start : ℕ) (stations : List Present) (answering : StationData) (words : List Word) (ended_so : Ended) where
   abbrev command : ShownBurst
   command = whole_burst channel start (command_words item.kind)
 
@@ -110,35 +115,31 @@ module _ (k : ℕ) (loads : List TimedLoad) (faults : List Fault) (attempt : ℕ
     burst = whole_burst channel (due_after answering.terminal (burst_end command)) words;
   }
 
-  abbrev pub clear_ending : Ended
-  clear_ending = record (without_words Clear (Some status) None) { words = kept_words item.kind first_answer.burst.slots }
-
-  abbrev pub clear_message : Message
-  clear_message = record {
-    ending = ends_so clear_ending (burst_end first_answer.burst + k);
+  abbrev pub read_message : Message
+  read_message = record {
+    ending = ends_so ended_so (burst_end first_answer.burst + k);
     stations = map (λ (after : After). after.station) (map (after_answer k loads first_answer.burst) ordered);
     deliveries = blocks_taken k loads command ordered;
     bursts = command ∷ first_answer.burst ∷ [];
     counted = is_counted item.kind (Some first_answer);
   }
 
-  module _ (shape : Shape) (expects : (answers_of item.kind).first ≡ Some shape) (only : (answers_of item.kind).second ≡ None)
-      (kept : item.abandon ≡ None) (some : 0 < length words)
-      (good : read_answer item.kind First (map (λ word. Some word) words) 0 ≡ Good status)
+  module _ (shape : Shape) (expects : (answers_of item.kind).first ≡ Some shape) (kept : item.abandon ≡ None) (some : 0 < length words)
+      (reads : first_read k item.kind first_answer None (read_answer item.kind First (map (λ word. Some word) words) 0)
+      ≡ ends_so ended_so (burst_end first_answer.burst + k))
       (owed : answer_to command ordered ≡ Some (answer_of command answering words)) (promises : Each PromisesNot ordered) where
-    clear-ending : ending_of k item (burst_end command) (Some first_answer) None ≡ ends_so clear_ending (burst_end first_answer.burst + k)
-    clear-ending =
+    read-ending : ending_of k item (burst_end command) (Some first_answer) None ≡ ends_so ended_so (burst_end first_answer.burst + k)
+    read-ending =
         ap (ending_by k item.kind item.abandon (burst_end command) (Some first_answer) None) expects
         ∙ ap (λ a. first_ending k item.kind a (burst_end command) (Some first_answer) None) kept
-        ∙ ap (first_read k item.kind first_answer None) good
-        ∙ ap (good_ending k item.kind status first_answer None) only
+        ∙ reads
 
     with-words : (ws : List Word) → words ≡ ws → 0 < length ws → shown_answer [] (Some (answer_of command answering words)) ≡ Some first_answer
     with-words [] is more = absurd (omega (arith, more))
     with-words (word ∷ ws) is more = shown-whole (answer_of command answering words) word ws is
 
-    pub message-clear : message k loads faults attempt item None channel start stations ≡ clear_message
-    message-clear =
+    pub message-read : message k loads faults attempt item None channel start stations ≡ read_message
+    message-read =
         let settled = map (after_answer k loads first_answer.burst) ordered in
         let blocks = blocks_taken k loads command ordered in
         let second : shown_answer (hits_on faults attempt Second) (answer_to first_answer.burst settled) ≡ None =
@@ -154,4 +155,26 @@ module _ (k : ℕ) (loads : List TimedLoad) (faults : List Fault) (attempt : ℕ
         ∙ ap (λ bs. message_by k loads faults attempt item None command (blocks ++ bs) settled (Some first_answer) None)
         (answer-taken k loads first_answer.burst ordered promises)
         ∙ ap (λ bs. message_by k loads faults attempt item None command bs settled (Some first_answer) None) (append-nil blocks)
-        ∙ ap (ended_message k loads faults attempt item None command blocks settled (Some first_answer) None) clear-ending
+        ∙ ap (ended_message k loads faults attempt item None command blocks settled (Some first_answer) None) read-ending
+
+-- ---- how it is read
+
+-- a good answer, the only one of its message
+pub good-read : (k : ℕ) (kind : Kind) (first : ShownAnswer) (status : ℕ) → read_answer kind First first.burst.slots 0 ≡ Good status →
+    (answers_of kind).second ≡ None → first_read k kind first None (read_answer kind First first.burst.slots 0)
+    ≡ ends_so (record (without_words Clear (Some status) None) { words = kept_words kind first.burst.slots }) (burst_end first.burst + k)
+good-read k kind first status good only = ap (first_read k kind first None) good ∙ ap (good_ending k kind status first None) only
+
+-- one that ends the message otherwise
+ends-by : (k : ℕ) (kind : Kind) (first : ShownAnswer) (offer : Bool) (outcome : Outcome) (status : Option ℕ) → (offer && is_bad (Ends outcome status)) ≡ false →
+    gives outcome ≡ false → read_ending k kind first offer outcome status ≡ ends_so (without_words outcome status None) (burst_end first.burst + k)
+ends-by k kind first offer Passed status once keeps = absurd (true≢false keeps)
+ends-by k kind first true (BadReply part) status once keeps = absurd (true≢false once)
+ends-by k kind first false (BadReply part) status once keeps = refl
+ends-by k kind first true outcome status once keeps = refl
+ends-by k kind first false outcome status once keeps = refl
+
+pub ends-read : (k : ℕ) (kind : Kind) (first : ShownAnswer) (outcome : Outcome) (status : Option ℕ) →
+    read_answer kind First first.burst.slots 0 ≡ Ends outcome status → (is_offer kind && is_bad (Ends outcome status)) ≡ false → gives outcome ≡ false →
+    first_read k kind first None (read_answer kind First first.burst.slots 0) ≡ ends_so (without_words outcome status None) (burst_end first.burst + k)
+ends-read k kind first outcome status is once keeps = ap (first_read k kind first None) is ∙ ends-by k kind first (is_offer kind) outcome status once keeps

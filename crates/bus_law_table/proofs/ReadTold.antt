@@ -1,6 +1,6 @@
--- A message with one answer, which is good: the world does what the message table says of it, by what happens in its command's ticks, while the
+-- A message with one answer, which ends it: the world does what the message table says of it, by what happens in its command's ticks, while the
 -- answer is awaited, and in the answer's ticks.
-use Rattle.std.proofs.Common.{◌≡◌, ◌≢◌, inl, inr, ℕ, true, List, ◌++◌, length, map, Some, refl, sym, ap, ◌∙◌}
+use Rattle.std.proofs.Common.{◌≡◌, ◌≢◌, inl, inr, ℕ, true, List, ◌++◌, length, map, Some, sym, ap, ◌∙◌, false}
 use Rattle.std.specs.Prelude.{slice_get}
 use Rattle.bus_base.specs.declared.samples.Pair.{Pair}
 use Rattle.bus_words.specs.declared.word.Word.{Word}
@@ -11,7 +11,7 @@ use Rattle.bus_model.specs.Message.{Present, After, Message, after_answer, after
 use Rattle.bus_model.specs.Starts.{Entry, starts}
 use Rattle.bus_model.specs.Strikes.{ShownBurst}
 use Rattle.bus_model.specs.Attempts.{Begun, Ended}
-use Rattle.bus_model.specs.Course.{Course, close}
+use Rattle.bus_model.specs.Course.{Course, gives, close}
 use Rattle.bus_model.specs.Control.{OutsideTake, course_after, keeps}
 use Rattle.bus_model.specs.World.{Trace, is_present}
 use Rattle.bus_model.specs.WorldLog.{present_stations, present_after}
@@ -20,7 +20,7 @@ use Rattle.bus_law_stations.specs.Turns.{KeepsControl}
 use Rattle.bus_law_table.specs.Stations.{loaded_at, ArePresent, IsUnstruck, IsNamedApart, HeardNothing}
 use Rattle.bus_law_table.specs.Tells.{after_message}
 use Rattle.bus_law_table.proofs.AllStations.{IsTold}
-use Rattle.bus_law_table.proofs.AnsweredTable.{PromisesNot, first_answer, clear_ending, clear_message, answer-passes}
+use Rattle.bus_law_table.proofs.ReadTable.{PromisesNot, first_answer, read_message, answer-passes}
 use Rattle.bus_law_table.proofs.Closed.{closed}
 use Rattle.bus_law_table.proofs.ClosedAll.{IsLeft, stations-closed}
 use Rattle.bus_law_table.proofs.Pairing.{Beside, beside-so, map-map}
@@ -29,7 +29,8 @@ use Rattle.bus_law_table.proofs.Unstruck.{whole_burst}
 
 module _ (k : ℕ) (plan : PlanData) (loads : List TimedLoad) (outside : List OutsideTake) (absent : List ℕ) (before : Trace) (place : ℕ)
     (holder : StationData) (entry : Entry) (stations : List Present) (attempt : ℕ) (strikes : IsUnstruck plan.faults attempt) (answering : StationData)
-    (words : List Word) (status : ℕ) (apart : IsNamedApart plan place holder) (there : slice_get plan.stations place ≡ Some holder)
+    (words : List Word) (e : Ended) (stays : gives e.outcome ≡ false) (apart : IsNamedApart plan place holder) (there : slice_get plan.stations place ≡ Some
+    holder)
     (holds : (course_after k holder (starts plan holder) loads outside before.shown).holds ≡ true)
     (unheard : HeardNothing k holder (starts plan holder) loads outside before.shown) (commanded paused answered : List Pair) where
   abbrev past : List Pair
@@ -51,13 +52,10 @@ module _ (k : ℕ) (plan : PlanData) (loads : List TimedLoad) (outside : List Ou
   Told = IsTold k plan loads outside absent past place holder commanded command
 
   abbrev first : ShownBurst
-  first = (first_answer k loads plan.faults attempt entry.item strikes begun.state.channel (length past) stations answering words status).burst
-
-  abbrev e : Ended
-  e = clear_ending k loads plan.faults attempt entry.item strikes begun.state.channel (length past) stations answering words status
+  first = (first_answer k loads plan.faults attempt entry.item strikes begun.state.channel (length past) stations answering words e).burst
 
   abbrev m : Message
-  m = clear_message k loads plan.faults attempt entry.item strikes begun.state.channel (length past) stations answering words status
+  m = read_message k loads plan.faults attempt entry.item strikes begun.state.channel (length past) stations answering words e
 
   -- the moments at which the command's end is known, at which the answer is due, and at which its end is known
   abbrev mid : List Pair
@@ -104,7 +102,7 @@ module _ (k : ℕ) (plan : PlanData) (loads : List TimedLoad) (outside : List Ou
 
     module _ (tick : ℕ) (closes : course_after k holder (starts plan holder) loads outside end ≡ close c begun e tick) where
       are-left : (st : StationData) (y : Present) → Told st y →
-          IsLeft k plan loads outside absent past end holder begun e tick holds refl closes alike left st y
+          IsLeft k plan loads outside absent past end holder begun e tick holds stays closes alike left st y
       are-left st y told =
           let is = left-is st y told in elim told [
             | inl own ↦ inl (own.0, own.1, is ∙ ap (λ (a : After). a.station) own.2)
@@ -116,8 +114,8 @@ module _ (k : ℕ) (plan : PlanData) (loads : List TimedLoad) (outside : List Ou
 
       pub stations-then : ArePresent k plan loads outside absent end (after_message holder begun m)
       stations-then =
-          stations-closed k plan loads outside absent past end holder begun e tick holds refl closes alike left stations
-          (beside-so Told (IsLeft k plan loads outside absent past end holder begun e tick holds refl closes alike left)
+          stations-closed k plan loads outside absent past end holder begun e tick holds stays closes alike left stations
+          (beside-so Told (IsLeft k plan loads outside absent past end holder begun e tick holds stays closes alike left)
           (present_stations k plan loads outside absent) stations are-left pairs)
           ∙ sym (ap (λ afters. map (loaded_at loads (length end)) (map (closed holder begun e) (map (λ (a : After). a.station) afters)))
           (map-map (after_answer k loads first) ac stations)
