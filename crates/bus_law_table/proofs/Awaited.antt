@@ -1,5 +1,5 @@
 -- While the answer to a command is awaited: the station in control keeps control, and of every other one nothing is due.
-use Rattle.std.proofs.Common.{◌≡◌, ◌≢◌, inl, inr, ℕ, suc, ◌+◌, ◌*◌, ◌≤◌, true, false, List, ◌++◌, length, Some, None, sym, ap, ◌∙◌, subst, arith, length-append}
+use Rattle.std.proofs.Common.{◌≡◌, ◌≢◌, inl, inr, ℕ, suc, ◌+◌, ◌≤◌, true, false, List, ◌++◌, length, Some, None, sym, ap, ◌∙◌, subst, arith}
 use Rattle.std.proofs.lemmas.Bool.{cases_eq, true≢false}
 use Rattle.std.proofs.lemmas.Option.{same_Some, none-some}
 use Rattle.std.specs.Prelude.{slice_get, not}
@@ -27,7 +27,7 @@ use Rattle.bus_model.specs.Attempts.{Begun}
 use Rattle.bus_model.specs.Course.{Course}
 use Rattle.bus_model.specs.Control.{OutsideTake, yielded_in, course_after, hearing_after}
 use Rattle.bus_model.specs.World.{Trace, is_present}
-use Rattle.bus_law_stations.specs.Silence.{quiet_pairs, AwaitsFirst, NothingStarts, StationRests}
+use Rattle.bus_law_stations.specs.Silence.{quiet_pairs, NothingStarts, StationRests}
 use Rattle.bus_law_stations.specs.Legs.{obeyed_in, after_command}
 use Rattle.bus_law_stations.specs.Messages.{with_running}
 use Rattle.bus_law_stations.specs.Turns.{moments_of}
@@ -38,10 +38,11 @@ use Rattle.bus_law_messages.specs.Ends.{burst_sent, HeardCommand, CommandOver}
 use Rattle.bus_law_messages.specs.Answers.{LeavesNothing}
 use Rattle.bus_law_table.proofs.Idle.{moments-shown}
 use Rattle.bus_law_messages.proofs.Heard.{hearing-long}
-use Rattle.bus_law_messages.proofs.Unanswered.{rests-both, serving-again}
+use Rattle.bus_law_messages.proofs.Unanswered.{serving-again}
 use Rattle.bus_law_messages.proofs.Pausing.{same-course}
 use Rattle.bus_law_table.proofs.Quiet.{quiet-kept}
 use Rattle.bus_law_table.proofs.Still.{serving-rests}
+use Rattle.bus_law_table.proofs.Waits as waits
 use Rattle.bus_law_stations.specs.Turns.{KeepsControl}
 
 module _ (k : ℕ) (plan : PlanData) (loads : List TimedLoad) (outside : List OutsideTake) (absent : List ℕ) (before : Trace) (place : ℕ)
@@ -76,42 +77,22 @@ module _ (k : ℕ) (plan : PlanData) (loads : List TimedLoad) (outside : List Ou
   mid = record { shown = ticks ++ before.shown; driven = silent ++ (sent ++ before.driven) }
 
   mid-long : length mid.shown ≡ e + suc k
-  mid-long =
-      let both : length (ticks ++ before.shown) ≡ length ticks + length before.shown = length-append ticks before.shown in
-      omega (arith, both, over.ends.many, long)
+  mid-long = waits.mid-long k plan loads outside absent before place holder begun hits ticks sent silent long settled over shape expects
 
   rests-over : (d : Channel) (past : List Sample) → runs k past ≡ false → runs k (on_channel d ticks ++ past) ≡ false
-  rests-over = rests-both k (40 * length (command_words begun.entry.item.kind) + suc k) c _ ticks over.ends.shown over.ends.quiet
+  rests-over = waits.rests-over k plan loads outside absent before place holder begun hits ticks sent silent long settled over shape expects
 
-  -- ---- the station in control
+  mid-holds : (course_after k holder (starts plan holder) loads outside mid.shown).holds ≡ true
+  mid-holds = waits.mid-holds k plan loads outside absent before place holder begun hits ticks sent silent long settled over shape expects
 
-  abbrev course : Course
-  course = course_after k holder (starts plan holder) loads outside mid.shown
+  mid-before : (tick : ℕ) → length mid.shown ≤ tick →
+      yielded_in tick (course_after k holder (starts plan holder) loads outside mid.shown).ended ≡ false
+  mid-before = waits.mid-before k plan loads outside absent before place holder begun hits ticks sent silent long settled over shape expects
 
-  mid-course : course ≡ with_running (course_after k holder (starts plan holder) loads outside before.shown) begun
-  mid-course = (over.controls.waits shape expects).0
-
-  mid-awaits : AwaitsFirst k begun (on_channel c mid.shown) e
-  mid-awaits = (over.controls.waits shape expects).1
-
-  mid-holds : course.holds ≡ true
-  mid-holds = ap (λ (d : Course). d.holds) mid-course ∙ settled.controls.holds
-
-  mid-runs : course.runs ≡ Some begun
-  mid-runs = ap (λ (d : Course). d.runs) mid-course
-
-  mid-before : (tick : ℕ) → length mid.shown ≤ tick → yielded_in tick course.ended ≡ false
-  mid-before tick late = ap (λ (d : Course). yielded_in tick d.ended) mid-course ∙ settled.controls.before tick (omega (arith, late, mid-long, long))
-
-  waits-on : (m : ℕ) → m ≤ n → NothingStarts k course mid.shown m
-  waits-on m few = record {
-    waits = λ other is. (
-      e,
-      inl (subst (λ b. AwaitsFirst k b (on_channel b.state.channel mid.shown) e) (same_Some begun other (sym mid-runs ∙ is)) mid-awaits),
-      omega (arith, mid-long, few, prompt),
-    );
-    starts = λ idle holds entry later left. absurd (none-some begun (sym idle ∙ mid-runs));
-  }
+  waits-on : NothingStarts k (course_after k holder (starts plan holder) loads outside mid.shown) mid.shown n
+  waits-on =
+      waits.waits-on k plan loads outside absent before place holder begun hits ticks sent silent long settled over shape expects n
+      (omega (arith, mid-long, prompt))
 
   -- ---- the one that is to answer
 
@@ -184,12 +165,13 @@ module _ (k : ℕ) (plan : PlanData) (loads : List TimedLoad) (outside : List Ou
 
   -- the station in control keeps control
   pub wait-kept : KeepsControl k holder (starts plan holder) loads outside mid.shown (quiet_pairs n)
-  wait-kept = quiet-kept k holder (starts plan holder) loads outside mid.shown mid-holds mid-before n (waits-on n (omega arith))
+  wait-kept = quiet-kept k holder (starts plan holder) loads outside mid.shown mid-holds mid-before n waits-on
 
   -- its course stays the same
   pub wait-course : course_after k holder (starts plan holder) loads outside (quiet_pairs n ++ mid.shown)
       ≡ with_running (course_after k holder (starts plan holder) loads outside before.shown) begun
-  wait-course = same-course k holder (starts plan holder) loads outside mid.shown mid-holds mid-before n (waits-on n (omega arith)) ∙ mid-course
+  wait-course = same-course k holder (starts plan holder) loads outside mid.shown mid-holds mid-before n waits-on
+      ∙ waits.mid-course k plan loads outside absent before place holder begun hits ticks sent silent long settled over shape expects
 
   -- nothing is due of the others
   pub wait-rests : (m : ℕ) → m ≤ n → (other : ℕ) (st : StationData) → slice_get plan.stations other ≡ Some st → other ≢ place → is_present absent st ≡ true →

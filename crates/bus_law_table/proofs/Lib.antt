@@ -9,11 +9,13 @@ pub mod AllStations
 pub mod Kept
 pub mod Closed
 pub mod CommandEnd
-pub mod SentTold
+pub mod NoneOwes
+pub mod SilentTold
 pub mod SentAt
 pub mod ReadTable
 pub mod Still
 pub mod Quiet
+pub mod Waits
 pub mod Awaited
 pub mod AnswerKept
 pub mod Answerer
@@ -26,3 +28,5 @@ pub mod ReadAt
 pub mod ReadFrom
 pub mod ReadLaw
 pub mod ReadKinds
+pub mod NoReply
+pub mod NoReplyAt

@@ -73,7 +73,8 @@ module _ (k : ℕ) (plan : PlanData) (loads : List TimedLoad) (outside : List Ou
         IsForNoOther plan absent place answerer (burst_sent (length due.shown) [] words) → (later : List Pair) (sent_last silent_last : List (List Drive)) →
         AnswerRead k plan loads outside absent due place holder begun answerer words [] e (length due.shown) later sent_last silent_last →
         Settled k plan loads outside absent record { shown = later ++ due.shown; driven = silent_last ++ (sent_last ++ due.driven) } place holder →
-        MessageTold k plan loads outside absent before record { shown = later ++ due.shown; driven = silent_last ++ (sent_last ++ due.driven) } place holder begun
+        MessageTold k plan loads outside absent before record { shown = later ++ due.shown; driven = silent_last ++ (sent_last ++ due.driven) } place holder
+        begun
         (message k loads plan.faults attempt entry.item None begun.state.channel t stations)
 
     -- from the moment at which the answer is due

@@ -26,7 +26,9 @@ use Rattle.bus_law_messages.proofs.Sending.{shown-long, none-takes-from}
 use Rattle.bus_law_messages.proofs.Unanswered.{message-sent}
 use Rattle.bus_law_table.specs.Stations.{ArePresent, IsUnstruck, IsNamedApart, HeardNothing}
 use Rattle.bus_law_table.specs.Tells.{MessageTold}
-use Rattle.bus_law_table.proofs.SentTold.{sent-told}
+use Rattle.bus_law_table.proofs.CommandEnd.{ends-now}
+use Rattle.bus_law_table.proofs.SilentTold.{silent-told}
+use Rattle.bus_model.specs.Endings.{ending_by}
 use Rattle.bus_law_table.proofs.Unstruck.{whole_burst}
 
 module _ (k : ℕ) (plan : PlanData) (loads : List TimedLoad) (outside : List OutsideTake) (absent : List ℕ) (t place : ℕ) (holder : StationData)
@@ -79,14 +81,23 @@ module _ (k : ℕ) (plan : PlanData) (loads : List TimedLoad) (outside : List Ou
         Told record { shown = ticks ++ before.shown; driven = silent ++ (sent ++ before.driven) } t
     told-in [] sent silent over again closes = let many : 0 ≡ 40 * length words + suc k = over.ends.many in absurd (omega (arith, many))
     told-in (x ∷ ticks) sent silent over again closes =
+        let stays_here = none-takes-from k plan loads outside place t (length before.shown) (40 * length words + suc k) long stays in
+        let over_here = subst (λ n. CommandOver k plan loads outside absent before place holder (message_begun c entry n) [] (x ∷ ticks) sent silent)
+        (sym long) over in
         subst (Told record { shown = x ∷ (ticks ++ before.shown); driven = silent ++ (sent ++ before.driven) }) long
-        (sent-told k plan loads outside absent before place holder entry small settled unheard begins
-        (none-takes-from k plan loads outside place t (length before.shown) (40 * length words + suc k) long stays) fit stations are x ticks sent silent
-        (subst (λ n. CommandOver k plan loads outside absent before place holder (message_begun c entry n) [] (x ∷ ticks) sent silent) (sym long) over)
-        apart attempt strikes none
+        (silent-told k plan loads outside absent before place holder entry small settled unheard begins stays_here fit stations are x ticks sent silent
+        over_here
+        apart attempt strikes
         (subst (λ n. IsUnanswered k plan loads outside absent before.shown place (message_begun c entry t).state.channel (burst_sent n [] words))
-        (sym long) unanswered)
-        (closed-at record { shown = x ∷ (ticks ++ before.shown); driven = silent ++ (sent ++ before.driven) } closes) again)
+        (sym long) unanswered) 0 (without_words Sent None None)
+        (burst_end (whole_burst (message_begun c entry t).state.channel (length before.shown) words) + k) refl tt
+        (λ other st here off is p same. same)
+        (closed-at record { shown = x ∷ (ticks ++ before.shown); driven = silent ++ (sent ++ before.driven) } closes)
+        (ap suc (ends-now k plan loads outside absent before place holder entry small settled unheard begins stays_here fit stations are x ticks sent silent
+        over_here)) refl refl
+        (ap (ending_by k entry.item.kind entry.item.abandon
+        (burst_end (whole_burst (message_begun c entry t).state.channel (length before.shown) words)) None None) none)
+        (silent ++ (sent ++ before.driven)) again)
 
     whole : LeavesWhole plan.faults Command before.driven [] words
     whole = record { named = strikes Command; heard = (unstruck words fit).0; uncut = λ i low. refl }

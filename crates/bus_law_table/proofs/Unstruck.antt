@@ -5,12 +5,12 @@ use Rattle.std.proofs.Math.Seq.{take-nil}
 use Rattle.bus_base.specs.declared.samples.Channel.{Channel}
 use Rattle.bus_base.specs.declared.samples.Part.TheVariants.{Command, First}
 use Rattle.bus_words.specs.declared.word.Word.{Word}
-use Rattle.bus_formats.specs.Forms.{command_words, answers_of}
+use Rattle.bus_formats.specs.Forms.{command_words}
 use Rattle.bus_formats.specs.Plans.{ItemData}
 use Rattle.bus_formats.specs.declared.fault.Fault.{Fault}
-use Rattle.bus_formats.specs.declared.form.Outcome.TheVariants.{Sent}
 use Rattle.bus_model.specs.Memory.{TimedLoad}
-use Rattle.bus_model.specs.Endings.{ends, ending_by}
+use Rattle.bus_model.specs.Attempts.{Ended}
+use Rattle.bus_model.specs.Endings.{ends_so, ending_of}
 use Rattle.bus_model.specs.Message.{Present, After, Message, answer_to, blocks_taken, after_silence, after_silence_of, after_command, command_burst, ended_message, message_obeyed, message_sent, message}
 use Rattle.bus_model.specs.Orders.{free}
 use Rattle.bus_model.specs.Strikes.{spoiled, struck, most_words, hits_on, ShownBurst, burst_end, shown_answer}
@@ -55,23 +55,23 @@ module _ (k : ℕ) (loads : List TimedLoad) (faults : List Fault) (attempt : ℕ
 
   -- ---- no answer
 
-  -- where no answer is owed: the message without one
-  abbrev pub sent_message : Message
-  sent_message = record {
-    ending = ends Sent None None (burst_end command + k);
+  -- where no answer is owed: the message that ends so, in this tick
+  abbrev pub silent_message : Ended → ℕ → Message
+  silent_message e tick = record {
+    ending = ends_so e tick;
     stations = map (λ (after : After). after.station) (map (after_silence k loads command) ordered);
     deliveries = blocks_taken k loads command ordered;
     bursts = command ∷ [];
     counted = true;
   }
 
-  pub message-unanswered : (answers_of item.kind).first ≡ None → answer_to command ordered ≡ None →
-      message k loads faults attempt item None channel start stations ≡ sent_message
-  message-unanswered none owed =
+  pub message-silent : answer_to command ordered ≡ None → (e : Ended) (tick : ℕ) → ending_of k item (burst_end command) None None ≡ ends_so e tick →
+      message k loads faults attempt item None channel start stations ≡ silent_message e tick
+  message-silent owed e tick ends =
       message-unstruck
       ∙ ap (λ a. message_obeyed k loads faults attempt item None command ordered (shown_answer (hits_on faults attempt First) a)) owed
-      ∙ ap (λ o. ended_message k loads faults attempt item None command (blocks_taken k loads command ordered)
-      (map (after_silence k loads command) ordered) None None (ending_by k item.kind item.abandon (burst_end command) None None o)) none
+      ∙ ap (ended_message k loads faults attempt item None command (blocks_taken k loads command ordered) (map (after_silence k loads command) ordered) None
+      None) ends
 
 -- ---- who owes an answer
 

@@ -5,6 +5,6 @@
 pub mod messages;
 
 pub use messages::{
-    a_message_whose_answer_ends_it_is_told, a_message_with_a_good_answer_is_told,
-    a_message_without_answer_is_told,
+    a_message_that_nobody_answers_is_told, a_message_whose_answer_ends_it_is_told,
+    a_message_with_a_good_answer_is_told, a_message_without_answer_is_told,
 };

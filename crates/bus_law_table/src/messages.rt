@@ -50,6 +50,24 @@ pub fn a_message_without_answer_is_told()
         MessageTold k plan loads outside absent before (trace k plan loads outside absent (t + over)) place holder begun m }
 {}
 
+/// A message that expects an answer, and to which no terminal answers, of an attempt that no fault names, is what the message table says of it: it ends
+/// NoResponse with the 24th tick after its command's end (no-response time-out, MIL-STD-1553B 4.3.3.9).
+pub fn a_message_that_nobody_answers_is_told()
+    ensures { (k : ℕ) (plan : PlanData) (loads : List TimedLoad) (outside : List OutsideTake) (absent : List ℕ) (t place : ℕ) (holder : StationData)
+        (entry : Entry) (stations : List Present) (shape : Shape) (n : ℕ) → k < 24 → let before : Trace = trace k plan loads outside absent t in
+        let c : Course = course_after k holder (starts plan holder) loads outside before.shown in
+        let begun : Begun = message_begun c entry t in let words : List Word = command_words entry.item.kind in
+        let attempt : ℕ = attempt_to_come plan.faults Command before.driven in
+        let m : Message = message k loads plan.faults attempt entry.item None begun.state.channel t stations in
+        let over : ℕ = 40 * length words + suc k in
+        Settled k plan loads outside absent before place holder → HeardNothing k holder (starts plan holder) loads outside before.shown →
+        BeginsMessage c before.shown entry → (answers_of entry.item.kind).first ≡ Some shape → NoneTakes k plan loads outside place t (t + over + n) →
+        IsUnstruck plan.faults attempt → All (λ (word : Word). word.bits < 65536) words → IsNamedApart plan place holder →
+        ArePresent k plan loads outside absent before.shown stations →
+        IsUnanswered k plan loads outside absent before.shown place begun.state.channel (burst_sent t [] words) → k + n ≡ no_response →
+        MessageTold k plan loads outside absent before (trace k plan loads outside absent (t + over + n)) place holder begun m }
+{}
+
 /// A message that expects one answer, which one terminal owes and which is good, of an attempt that no fault names, is what the message table says
 /// of it: from a settled moment at which it begins to the tick in which it ends. The answer comes when it is due, and belongs to the same attempt;
 /// no other terminal owes or promises anything to the command, and none finds a command in the answer. At every lag below the wait for an answer, for
