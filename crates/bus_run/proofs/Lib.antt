@@ -18,3 +18,4 @@ pub mod NamedLaws
 pub mod ObjectLaws
 pub mod AcceptedLaws
 pub mod PickedLaws
+pub mod PlaceLaws

@@ -9,3 +9,4 @@ pub mod Terminals
 pub mod Stands
 pub mod Kept
 pub mod Data
+pub mod Places

@@ -25,4 +25,7 @@ pub mod station_row;
 
 pub use bus::Bus;
 pub use finished::FinishedBus;
-pub use laws::a_delivery_is_for_data;
+pub use laws::{
+    a_delivery_is_for_data, each_object_is_of_its_station, no_objects_without_subsystems,
+    sixty_two_objects_are_enough,
+};
