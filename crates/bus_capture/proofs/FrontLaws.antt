@@ -40,8 +40,8 @@ tick-reads (a ∷ []) shown is = absurd (cc)
 tick-reads (a ∷ b ∷ rest) shown is = (omega arith, pair-reads a b (sample_of a) (sample_of b) shown refl refl is)
 
 -- there are two bytes more where a tick comes
-pub tick-within : (piece : List ℕ) (bytes : ℕ) (shown : Pair) → bytes ≤ length piece → tick_front (take (length piece - bytes) (drop bytes piece)) ≡ Some shown →
-    bytes + 2 ≤ length piece
+pub tick-within : (piece : List ℕ) (bytes : ℕ) (shown : Pair) → bytes ≤ length piece →
+    tick_front (take (length piece - bytes) (drop bytes piece)) ≡ Some shown → bytes + 2 ≤ length piece
 tick-within piece bytes shown within is =
     let two : 2 ≤ length (drop bytes piece) = (tick-reads (drop bytes piece) shown (subst (λ p. tick_front p ≡ Some shown) (take_rest piece bytes) is)).0 in
     let long : length (drop bytes piece) ≡ length piece - bytes = length-drop bytes piece in

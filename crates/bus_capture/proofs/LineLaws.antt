@@ -46,7 +46,8 @@ pairs-more bytes ticks i within room before =
 -- ---- samples alone are read as the ticks that they write
 
 level-is : (byte : ℕ) (plus minus quiet : Bool) → (byte == 43) ≡ plus → (byte == 45) ≡ minus → (byte == 46) ≡ quiet → (plus || minus || quiet) ≡ true →
-    (if plus then Some Plus else if minus then Some Minus else if quiet then Some Quiet else None) ≡ Some (if plus then Plus else if minus then Minus else Quiet)
+    (if plus then Some Plus else if minus then Some Minus else if quiet then Some Quiet else None) ≡
+    Some (if plus then Plus else if minus then Minus else Quiet)
 level-is byte true minus quiet p m q is = refl
 level-is byte false true quiet p m q is = refl
 level-is byte false false true p m q is = refl

@@ -61,7 +61,8 @@ module _ {L : Type 0} (stands : L → List Pair → Type 0) (lines : List Pair �
   lists-more writer past (Err stops.WriteFault) stood owed = record { later = []; before = past; parts = refl; front = owed }
 
   -- what stopped stays so with later ticks
-  pub listed-later : (T U : Type 0) (writer : ListingWriter L) (more past : List Pair) (stop : Stop) → Listed stands lines writer past first held {T = T} (Err stop) →
+  pub listed-later : (T U : Type 0) (writer : ListingWriter L) (more past : List Pair) (stop : Stop) →
+      Listed stands lines writer past first held {T = T} (Err stop) →
       Listed stands lines writer (more ++ past) first held {T = U} (Err stop)
   listed-later T U writer more past (stops.Refused refusal) listed = listed
   listed-later T U writer more past stops.WriteFault listed = record {

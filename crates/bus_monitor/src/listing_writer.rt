@@ -193,7 +193,8 @@ impl<L: Lister> ListingWriter<L> {
 
     // Lists ticks, and writes what they complete where the text gets long.
     fn list_ticks<K: Sink>(&mut self, ticks: &[Pair], sink: &mut K) -> Result<(), Stop>
-        requires { (past : List Pair) × (first : Option (List ℕ)) × Lists L.stands L.lines self.old past first (K.held sink.old) × (length past + length ticks.now < 2 ^ 60) }
+        requires { (past : List Pair) × (first : Option (List ℕ)) × Lists L.stands L.lines self.old past first (K.held sink.old)
+            × (length past + length ticks.now < 2 ^ 60) }
         ensures reader { self.new.reader ≡ self.old.reader }
         ensures listed { (past : List Pair) (first : Option (List ℕ)) → Lists L.stands L.lines self.old past first (K.held sink.old) →
             Listed L.stands L.lines self.new (reverse ticks.now ++ past) first (K.held sink.new) result }
@@ -211,7 +212,8 @@ impl<L: Lister> ListingWriter<L> {
     // Lists a tick, and writes what it completes where the text gets long.
     #[inline(always)]
     fn list_tick<K: Sink>(&mut self, shown: Pair, sink: &mut K) -> Result<(), Stop>
-        requires { (past : List Pair) × (first : Option (List ℕ)) × Lists L.stands L.lines self.old past first (K.held sink.old) × (length past < 2 ^ 60) }
+        requires { (past : List Pair) × (first : Option (List ℕ)) × Lists L.stands L.lines self.old past first (K.held sink.old)
+            × (length past < 2 ^ 60) }
         ensures reader { self.new.reader ≡ self.old.reader }
         ensures listed { (past : List Pair) (first : Option (List ℕ)) → Lists L.stands L.lines self.old past first (K.held sink.old) →
             Listed L.stands L.lines self.new (shown ∷ past) first (K.held sink.new) result }
