@@ -1,30 +1,20 @@
 -- The two ways in which the only answer of a message ends it, with control kept: it is good, or it is read as another ending.
-use Rattle.std.proofs.Common.{◌≡◌, ℕ, suc, ◌+◌, ◌*◌, ◌<◌, Bool, true, false, List, ◌++◌, length, Option, Some, None, refl, sym, ap, ◌∙◌}
-use Rattle.std.proofs.lemmas.Bool.{true≢false}
-use Rattle.std.specs.Prelude.{◌&&◌, ◌||◌, ◌==◌, not, if◌then◌else◌}
+use Rattle.std.proofs.Common.{◌≡◌, ℕ, suc, ◌+◌, ◌*◌, ◌<◌, false, List, ◌++◌, length, Option, None, refl, ap, ◌∙◌}
+use Rattle.std.specs.Prelude.{◌&&◌}
 use Rattle.bus_base.specs.declared.samples.Drive.{Drive}
 use Rattle.bus_base.specs.declared.samples.Pair.{Pair}
 use Rattle.bus_base.specs.declared.samples.Part.TheVariants.{First}
-use Rattle.bus_base.specs.declared.samples.Sample.{Sample}
-use Rattle.bus_words.specs.Fields.{flags_in}
 use Rattle.bus_words.specs.declared.word.Word.{Word}
-use Rattle.bus_line.specs.Past.{Burst}
-use Rattle.bus_formats.specs.Codes.{transmit_status_word, transmit_last_command}
 use Rattle.bus_formats.specs.Forms.{answers_of}
-use Rattle.bus_formats.specs.Plans.{ItemData, StationData, PlanData}
-use Rattle.bus_formats.specs.Readings.{read_answer, read_by, read_offer, read_status, read_mode, read_refusal, read_full, read_data, read_shape, shape_in, status_alone, status_full}
+use Rattle.bus_formats.specs.Plans.{StationData, PlanData}
+use Rattle.bus_formats.specs.Readings.{read_answer}
 use Rattle.bus_formats.specs.declared.fault.Hit.{Hit}
 use Rattle.bus_formats.specs.declared.form.Outcome.{Outcome}
-use Rattle.bus_formats.specs.declared.form.Outcome.TheVariants.{Clear, Sent, Declined, Passed, Illegal, Busy, NoResponse, BadReply, Abandoned, Yielded}
-use Rattle.bus_formats.specs.declared.form.Reading.{Reading}
 use Rattle.bus_formats.specs.declared.form.Reading.TheVariants.{Good, Ends}
-use Rattle.bus_formats.specs.declared.form.Shape.{Shape}
-use Rattle.bus_formats.specs.declared.plan.Kind.{Kind}
-use Rattle.bus_formats.specs.declared.plan.Kind.TheVariants.{Receive, Transmit, Relay, Mode}
 use Rattle.bus_model.specs.Memory.{TimedLoad}
 use Rattle.bus_model.specs.Strikes.{added_by}
 use Rattle.bus_model.specs.Attempts.{Begun, without_words, is_offer}
-use Rattle.bus_model.specs.Controller.{first_read, good_ending, read_ending, ended_so, is_bad}
+use Rattle.bus_model.specs.Controller.{first_read, good_ending, is_bad}
 use Rattle.bus_model.specs.Course.{gives}
 use Rattle.bus_model.specs.Control.{OutsideTake}
 use Rattle.bus_model.specs.World.{Trace, trace}

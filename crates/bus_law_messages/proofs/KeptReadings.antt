@@ -1,20 +1,17 @@
 -- Which readings of an answer keep control, and end the message at once.
-use Rattle.std.proofs.Common.{◌≡◌, ℕ, suc, ◌+◌, ◌*◌, ◌<◌, Bool, true, false, List, ◌++◌, length, Option, Some, None, refl, sym, ap, ◌∙◌}
+use Rattle.std.proofs.Common.{◌≡◌, ℕ, Bool, true, false, List, Option, Some, None, refl, sym, ap, ◌∙◌}
 use Rattle.std.proofs.lemmas.Bool.{true≢false}
 use Rattle.std.specs.Prelude.{◌&&◌, ◌||◌, ◌==◌, not, if◌then◌else◌}
-use Rattle.bus_base.specs.declared.samples.Drive.{Drive}
 use Rattle.bus_base.specs.declared.samples.Pair.{Pair}
 use Rattle.bus_base.specs.declared.samples.Part.{Part}
-use Rattle.bus_base.specs.declared.samples.Part.TheVariants.{First}
 use Rattle.bus_base.specs.declared.samples.Sample.{Sample}
 use Rattle.bus_words.specs.Fields.{flags_in}
 use Rattle.bus_words.specs.declared.word.Word.{Word}
 use Rattle.bus_line.specs.Past.{Burst}
 use Rattle.bus_formats.specs.Codes.{transmit_status_word, transmit_last_command}
 use Rattle.bus_formats.specs.Forms.{answers_of}
-use Rattle.bus_formats.specs.Plans.{ItemData, StationData, PlanData}
+use Rattle.bus_formats.specs.Plans.{ItemData}
 use Rattle.bus_formats.specs.Readings.{read_answer, read_by, read_offer, read_status, read_mode, read_refusal, read_full, read_data, read_shape, shape_in, status_alone, status_full}
-use Rattle.bus_formats.specs.declared.fault.Hit.{Hit}
 use Rattle.bus_formats.specs.declared.form.Outcome.{Outcome}
 use Rattle.bus_formats.specs.declared.form.Outcome.TheVariants.{Clear, Sent, Declined, Passed, Illegal, Busy, NoResponse, BadReply, Abandoned, Yielded}
 use Rattle.bus_formats.specs.declared.form.Reading.{Reading}
@@ -22,20 +19,9 @@ use Rattle.bus_formats.specs.declared.form.Reading.TheVariants.{Good, Ends}
 use Rattle.bus_formats.specs.declared.form.Shape.{Shape}
 use Rattle.bus_formats.specs.declared.plan.Kind.{Kind}
 use Rattle.bus_formats.specs.declared.plan.Kind.TheVariants.{Receive, Transmit, Relay, Mode}
-use Rattle.bus_model.specs.Memory.{TimedLoad}
-use Rattle.bus_model.specs.Strikes.{added_by}
-use Rattle.bus_model.specs.Attempts.{Begun, without_words, is_offer}
-use Rattle.bus_model.specs.Controller.{first_read, good_ending, read_ending, ended_so, is_bad}
+use Rattle.bus_model.specs.Attempts.{is_offer}
+use Rattle.bus_model.specs.Controller.{read_ending, ended_so, is_bad}
 use Rattle.bus_model.specs.Course.{gives}
-use Rattle.bus_model.specs.Control.{OutsideTake}
-use Rattle.bus_model.specs.World.{Trace, trace}
-use Rattle.bus_law_line.specs.Shown.{slots_shown}
-use Rattle.bus_law_messages.specs.Settled.{Settled, NoneTakes}
-use Rattle.bus_law_messages.specs.Commands.{LeavesWhole}
-use Rattle.bus_law_messages.specs.Ends.{burst_sent}
-use Rattle.bus_law_messages.specs.Answers.{AnswerDue, clear_with, LeavesNothing, AnswerOver}
-use Rattle.bus_law_messages.specs.AnswerRead.{AnswerRead}
-use Rattle.bus_law_messages.proofs.Closing.{and-not}
 
 -- a reading that ends the message keeps control
 abbrev keeps : Reading → Bool

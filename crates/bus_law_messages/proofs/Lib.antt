@@ -40,3 +40,4 @@ pub mod KeptReadings
 pub mod RelayOtherwise
 pub mod Promising
 pub mod QuietEnds
+pub mod RelaySilent

@@ -1,14 +1,13 @@
 -- What a relay's command leaves of its receivers, and what the transmitter's words leave of them.
-use Rattle.std.proofs.Common.{◌≡◌, ◌≢◌, ◌⊎◌, inl, inr, ℕ, zero, suc, ◌+◌, ◌*◌, ◌%◌, ◌<◌, ◌≤◌, Bool, true, false, List, [], ◌∷◌, length, map, Option, Some, None, refl, sym, ap, ◌∙◌, subst, arith}
+use Rattle.std.proofs.Common.{◌≡◌, ◌≢◌, inl, inr, ℕ, ◌+◌, ◌%◌, ◌<◌, ◌≤◌, Bool, true, false, List, [], ◌∷◌, length, map, Option, Some, None, refl, sym, ap, ◌∙◌, subst, arith}
 use Rattle.std.proofs.lemmas.List.Elements.{All-nil}
 use Rattle.std.proofs.lemmas.Bool.Decides.{nat_tests}
-use Rattle.std.specs.Prelude.{◌&&◌, ◌||◌, ◌==◌, not, if◌then◌else◌, slice_get}
+use Rattle.std.specs.Prelude.{◌&&◌, ◌==◌, not, if◌then◌else◌, slice_get}
 use Rattle.std.specs.Option.{option_or}
 use Rattle.bus_base.specs.declared.samples.Channel.{Channel}
 use Rattle.bus_base.specs.declared.samples.Channel.TheVariants.{A, B}
 use Rattle.bus_base.specs.declared.samples.Pair.{Pair}
-use Rattle.bus_words.specs.Fields.{command_bits, address_of, is_transmit, is_mode, is_broadcast, sub_of, field_of, word_count}
-use Rattle.bus_words.specs.declared.word.Word.{Word}
+use Rattle.bus_words.specs.Fields.{command_bits, address_of, is_transmit, is_mode, is_broadcast, field_of, word_count}
 use Rattle.bus_line.specs.Past.{Burst, end_of, rest_of}
 use Rattle.bus_formats.specs.Accepted.{AreWords, HasKindRanges}
 use Rattle.bus_formats.specs.Forms.{data_command, data_word, command_words, is_second_command}
@@ -20,7 +19,7 @@ use Rattle.bus_formats.specs.declared.plan.Kind.TheVariants.{Relay}
 use Rattle.bus_model.specs.Commands.{relay_from, tail_by, words_after, is_relay, tail_of, is_illegal}
 use Rattle.bus_model.specs.Control.{OutsideTake, course_after, hearing_after}
 use Rattle.bus_model.specs.Memory.{Memory, TimedLoad, is_off, status_of, with_loads}
-use Rattle.bus_model.specs.Orders.{Duty, free, owes, promises, Taken, Obeyed, Order, last_order, answer, block_taken, after_taking, leaves, answered, with_error, obey_tail, obey, unkept, kept, relayed, keep_promise}
+use Rattle.bus_model.specs.Orders.{free, owes, promises, Obeyed, Order, answer, block_taken, leaves, answered, with_error, obey_tail, obey, kept, relayed, keep_promise}
 use Rattle.bus_model.specs.Standing.{Standing, is_promise}
 use Rattle.bus_model.specs.Starts.{starts, has_items}
 use Rattle.bus_model.specs.Terminal.{standing_after}

@@ -1,39 +1,27 @@
 -- A moment in which a message waits for an answer that never comes: the quiet ticks until the wait is over, and the settled moment then.
-use Rattle.std.proofs.Common.{◌≡◌, ◌≢◌, inl, inr, ℕ, zero, suc, ◌+◌, ◌*◌, ◌<◌, true, List, ◌++◌, length, Some, sym, ap, ◌∙◌, subst, arith, length-append, false, None}
+use Rattle.std.proofs.Common.{◌≡◌, ◌≢◌, inl, inr, ℕ, suc, ◌+◌, ◌<◌, true, List, ◌++◌, length, Some, ap, ◌∙◌, arith, false}
 use Rattle.std.proofs.lemmas.Bool.{cases_eq}
 use Rattle.std.specs.Prelude.{slice_get, ◌==◌, not}
 use Rattle.bus_base.specs.declared.samples.Channel.{Channel}
 use Rattle.bus_base.specs.declared.samples.Drive.{Drive}
 use Rattle.bus_base.specs.declared.samples.Drive.TheVariants.{Silent}
-use Rattle.bus_base.specs.declared.samples.Pair.{Pair}
-use Rattle.bus_base.specs.declared.samples.Part.TheVariants.{Command}
-use Rattle.bus_line.specs.Past.{Burst, runs, end_of}
+use Rattle.bus_line.specs.Past.{runs}
 use Rattle.bus_line.specs.Channels.{on_channel}
-use Rattle.bus_formats.specs.Forms.{answers_of, command_words}
 use Rattle.bus_formats.specs.Plans.{StationData, PlanData}
 use Rattle.bus_formats.specs.Times.{no_response}
-use Rattle.bus_formats.specs.declared.fault.Hit.{Hit}
-use Rattle.bus_formats.specs.declared.form.Shape.{Shape}
 use Rattle.bus_model.specs.Memory.{TimedLoad}
-use Rattle.bus_model.specs.Starts.{Entry, starts}
-use Rattle.bus_model.specs.Strikes.{added_by}
+use Rattle.bus_model.specs.Starts.{starts}
 use Rattle.bus_model.specs.Transmissions.{drives_on, drive_or, station_drive, newest_drives}
 use Rattle.bus_model.specs.Attempts.{Begun, Ended}
-use Rattle.bus_model.specs.Course.{Course, gives, close}
+use Rattle.bus_model.specs.Course.{Course, close}
 use Rattle.bus_model.specs.Control.{OutsideTake, yielded_in, course_after, drives_next}
-use Rattle.bus_model.specs.World.{Trace, trace, is_present, drives_after, ticks_on}
+use Rattle.bus_model.specs.World.{Trace, is_present, drives_after, ticks_on}
 use Rattle.bus_law_line.specs.Senders.{IsSpent, LeftAlone}
 use Rattle.bus_law_line.proofs.Sent.{left-spent}
 use Rattle.bus_law_stations.specs.Silence.{quiet_pairs}
-use Rattle.bus_law_stations.specs.Messages.{BeginsMessage, message_begun}
 use Rattle.bus_law_stations.proofs.Resting.{rests-quiet}
 use Rattle.bus_law_messages.specs.Settled.{IsServing, Settled, NoneTakes}
-use Rattle.bus_law_messages.specs.Commands.{LeavesWhole}
-use Rattle.bus_law_messages.specs.Ends.{burst_sent, CommandOver, IsUnanswered}
-use Rattle.bus_law_messages.proofs.Closing.{and-not}
-use Rattle.bus_law_messages.proofs.Sending.{place-silent, place-drives, shown-long}
-use Rattle.bus_law_messages.proofs.Over.{over-at}
-use Rattle.bus_law_messages.proofs.Unanswered.{serving-again, trace-later}
+use Rattle.bus_law_messages.proofs.Sending.{place-silent, place-drives}
 use Rattle.bus_law_messages.proofs.Pausing.{on-quiet, holder-silent, serving-still, serving-quiet, paused, undriven-still}
 use Rattle.bus_law_messages.proofs.Waiting.{not-yielded}
 use Rattle.bus_law_messages.proofs.Silenced.{Pending, silent_end, nothing-due, silenced-silent, silenced-course, end-kept}

@@ -1,46 +1,38 @@
 -- An answer of a relay that isn't good: the message ends as it is read.
-use Rattle.std.proofs.Common.{◌≡◌, ◌≢◌, ◌⊎◌, inl, inr, ℕ, suc, ◌+◌, ◌*◌, ◌%◌, ◌<◌, true, false, List, ◌∷◌, ◌++◌, length, Option, Some, None, refl, sym, ap, ◌∙◌, subst, arith}
-use Rattle.std.proofs.lemmas.Bool.{cases_eq}
-use Rattle.std.proofs.lemmas.Option.{same_Some}
-use Rattle.std.specs.Prelude.{slice_get, ◌==◌, ◌&&◌, not}
-use Rattle.bus_base.specs.declared.samples.Channel.{Channel}
+use Rattle.std.proofs.Common.{◌≡◌, inl, inr, ℕ, suc, ◌+◌, ◌*◌, ◌<◌, false, List, ◌∷◌, ◌++◌, length, Option, Some, None, sym, ap, ◌∙◌, subst}
+use Rattle.std.specs.Prelude.{◌&&◌}
 use Rattle.bus_base.specs.declared.samples.Drive.{Drive}
 use Rattle.bus_base.specs.declared.samples.Pair.{Pair}
-use Rattle.bus_base.specs.declared.samples.Part.{Part}
 use Rattle.bus_base.specs.declared.samples.Part.TheVariants.{First, Second}
 use Rattle.bus_words.specs.declared.word.Word.{Word}
-use Rattle.bus_line.specs.Past.{Burst, end_of, rest_of}
+use Rattle.bus_line.specs.Past.{Burst, end_of}
 use Rattle.bus_line.specs.Channels.{on_channel}
-use Rattle.bus_formats.specs.Forms.{answers_of}
 use Rattle.bus_formats.specs.Plans.{StationData, PlanData}
 use Rattle.bus_formats.specs.Readings.{read_answer}
 use Rattle.bus_formats.specs.declared.fault.Hit.{Hit}
-use Rattle.bus_formats.specs.declared.form.Outcome.TheVariants.{Clear}
 use Rattle.bus_formats.specs.declared.form.Outcome.{Outcome}
-use Rattle.bus_formats.specs.declared.form.Reading.TheVariants.{Good, Ends}
+use Rattle.bus_formats.specs.declared.form.Reading.TheVariants.{Ends}
 use Rattle.bus_model.specs.Memory.{TimedLoad}
 use Rattle.bus_model.specs.Starts.{starts}
 use Rattle.bus_model.specs.Strikes.{added_by}
 use Rattle.bus_model.specs.Attempts.{Begun, Ended, without_words, is_offer}
 use Rattle.bus_model.specs.Controller.{first_read, second_read, is_bad}
-use Rattle.bus_model.specs.Course.{Course, gives, close}
-use Rattle.bus_model.specs.Control.{OutsideTake, yielded_in, course_after}
-use Rattle.bus_model.specs.World.{Trace, trace, is_present}
+use Rattle.bus_model.specs.Course.{gives, close}
+use Rattle.bus_model.specs.Control.{OutsideTake, course_after}
+use Rattle.bus_model.specs.World.{Trace, trace}
 use Rattle.bus_law_line.specs.Shown.{slots_shown}
 use Rattle.bus_law_stations.specs.Silence.{AwaitsFirst, AwaitsSecond}
-use Rattle.bus_law_messages.specs.Settled.{IsServing, Settled, NoneTakes}
+use Rattle.bus_law_messages.specs.Settled.{Settled, NoneTakes}
 use Rattle.bus_law_messages.specs.Commands.{LeavesWhole}
 use Rattle.bus_law_messages.specs.Ends.{burst_sent}
-use Rattle.bus_law_messages.specs.Answers.{clear_with}
 use Rattle.bus_law_messages.specs.Relays.{ReplyDue, LeavesSettled, ReplyOver}
 use Rattle.bus_law_messages.proofs.Sending.{shown-long}
 use Rattle.bus_law_messages.proofs.Unanswered.{trace-later}
-use Rattle.bus_law_messages.proofs.Settling.{serving-then}
 use Rattle.bus_law_messages.proofs.PauseToReply.{reply-holding, reply-speaks}
-use Rattle.bus_law_messages.proofs.Waiting.{not-yielded, read-course, second-course}
+use Rattle.bus_law_messages.proofs.Waiting.{read-course, second-course}
 use Rattle.bus_law_messages.proofs.RelayEnds.{no-rest, is-over, settles}
 use Rattle.bus_law_messages.proofs.KeptReadings.{reading-keeps, at-once}
-use Rattle.bus_law_messages.proofs.AnswerSpoken.{Spoken, answer-spoken}
+use Rattle.bus_law_messages.proofs.AnswerSpoken.{answer-spoken}
 
 pub first-ends-at : (k : ℕ) (plan : PlanData) (loads : List TimedLoad) (outside : List OutsideTake) (absent : List ℕ) (t place : ℕ)
     (holder : StationData) (begun : Begun) (e answerer : ℕ) (answering : StationData) (words : List Word) (hits : List Hit) (outcome : Outcome)

@@ -1,14 +1,10 @@
 -- A message that nobody answers, from its start to the settled moment after it.
-use Rattle.std.proofs.Common.{◌≡◌, ◌≢◌, inl, inr, ℕ, zero, suc, ◌+◌, ◌*◌, ◌<◌, true, List, ◌++◌, length, Some, sym, ap, ◌∙◌, subst, arith, length-append, None, false}
-use Rattle.std.proofs.lemmas.Bool.{cases_eq}
-use Rattle.std.specs.Prelude.{slice_get, ◌==◌}
-use Rattle.bus_base.specs.declared.samples.Channel.{Channel}
+use Rattle.std.proofs.Common.{◌≡◌, ◌≢◌, inl, ℕ, zero, suc, ◌+◌, ◌*◌, ◌<◌, true, List, ◌++◌, length, Some, sym, ap, ◌∙◌, subst, arith, length-append, None}
+use Rattle.std.specs.Prelude.{slice_get}
 use Rattle.bus_base.specs.declared.samples.Drive.{Drive}
-use Rattle.bus_base.specs.declared.samples.Drive.TheVariants.{Silent}
 use Rattle.bus_base.specs.declared.samples.Pair.{Pair}
 use Rattle.bus_base.specs.declared.samples.Part.TheVariants.{Command, First}
-use Rattle.bus_line.specs.Past.{Burst, runs, end_of}
-use Rattle.bus_line.specs.Channels.{on_channel}
+use Rattle.bus_line.specs.Past.{Burst, end_of}
 use Rattle.bus_formats.specs.Forms.{answers_of, command_words}
 use Rattle.bus_formats.specs.Plans.{StationData, PlanData}
 use Rattle.bus_formats.specs.Times.{no_response}
@@ -18,24 +14,18 @@ use Rattle.bus_formats.specs.declared.form.Shape.{Shape}
 use Rattle.bus_model.specs.Memory.{TimedLoad}
 use Rattle.bus_model.specs.Starts.{Entry, starts}
 use Rattle.bus_model.specs.Strikes.{added_by}
-use Rattle.bus_model.specs.Transmissions.{drive_or, station_drive}
 use Rattle.bus_model.specs.Attempts.{Begun, without_words}
 use Rattle.bus_model.specs.Course.{Course, close}
-use Rattle.bus_model.specs.Control.{OutsideTake, yielded_in, course_after, drives_next}
-use Rattle.bus_model.specs.World.{Trace, trace, is_present, drives_after, ticks_on}
-use Rattle.bus_law_line.specs.Senders.{IsSpent, LeftAlone}
-use Rattle.bus_law_line.proofs.Sent.{left-spent}
+use Rattle.bus_model.specs.Control.{OutsideTake, course_after}
+use Rattle.bus_model.specs.World.{Trace, trace, is_present, ticks_on}
 use Rattle.bus_law_stations.specs.Silence.{quiet_pairs}
 use Rattle.bus_law_stations.specs.Messages.{BeginsMessage, message_begun}
-use Rattle.bus_law_stations.proofs.Resting.{rests-quiet}
-use Rattle.bus_law_messages.specs.Settled.{IsServing, Settled, NoneTakes}
+use Rattle.bus_law_messages.specs.Settled.{Settled, NoneTakes}
 use Rattle.bus_law_messages.specs.Commands.{LeavesWhole}
 use Rattle.bus_law_messages.specs.Ends.{burst_sent, CommandOver, IsUnanswered}
-use Rattle.bus_law_messages.proofs.Closing.{and-not}
-use Rattle.bus_law_messages.proofs.Sending.{place-silent, place-drives, shown-long}
+use Rattle.bus_law_messages.proofs.Sending.{shown-long}
 use Rattle.bus_law_messages.proofs.Over.{over-at}
 use Rattle.bus_law_messages.proofs.Unanswered.{serving-again, trace-later}
-use Rattle.bus_law_messages.proofs.Pausing.{on-quiet, holder-silent, serving-still, serving-quiet, paused, undriven-still}
 use Rattle.bus_law_messages.proofs.Midway.{mid-long, rests-over, mid-rests, mid-spent, mid-undriven, mid-waits}
 use Rattle.bus_law_messages.proofs.Silenced.{Pending}
 use Rattle.bus_law_messages.proofs.QuietEnds.{pauses-silent, course-then, settled-silent}

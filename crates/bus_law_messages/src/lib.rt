@@ -31,7 +31,8 @@ pub use promises::{
 };
 pub use relays::{
     a_good_answer_clears_a_broadcast_relay, a_good_second_answer_clears_its_relay,
-    a_receiver_answers_when_due, a_transmitter_answers_when_due, an_answer_ends_its_relay,
+    a_receiver_answers_when_due, a_relay_ends_without_a_second_response,
+    a_transmitter_answers_when_due, an_answer_ends_its_relay,
 };
 pub use shapes::{
     a_good_answer_clears_its_message, a_message_without_answer_is_sent, an_answer_comes_due,

@@ -11,7 +11,7 @@ ghost use Rattle.bus_line.specs.Channels.{on_channel};
 ghost use Rattle.bus_formats.specs.Forms.{answers_of, command_words};
 ghost use Rattle.bus_formats.specs.Readings.{read_answer};
 ghost use Rattle.bus_formats.specs.Times.{no_response};
-ghost use Rattle.bus_formats.specs.declared.form.Outcome.TheVariants.{Clear};
+ghost use Rattle.bus_formats.specs.declared.form.Outcome.TheVariants.{Clear, NoResponse};
 ghost use Rattle.bus_formats.specs.declared.form.Shape.{Shape};
 ghost use Rattle.bus_formats.specs.declared.form.Outcome.{Outcome};
 ghost use Rattle.bus_formats.specs.declared.form.Reading.TheVariants.{Good, Ends};
@@ -183,4 +183,29 @@ pub fn an_answer_ends_its_relay()
         × Settled k plan loads outside absent after place holder
         × (course_after k holder (starts plan holder) loads outside after.shown
         ≡ close (course_after k holder (starts plan holder) loads outside before.shown) begun (without_words outcome (Some status) ends) (end_of burst + k)) }
+{}
+
+/// Where a second answer is expected and nobody owes it: the first one is sent alone, and is good, and both channels are quiet until the 24th tick after
+/// its end, in which the message ends NoResponse with the first one's status (no-response time-out, MIL-STD-1553B 4.3.3.9). The world is settled again,
+/// in the same hands. At every lag below the wait for an answer, for any loads, with any stations absent.
+pub fn a_relay_ends_without_a_second_response()
+    ensures { (k : ℕ) (plan : PlanData) (loads : List TimedLoad) (outside : List OutsideTake) (absent : List ℕ) (t place : ℕ) (holder : StationData)
+        (begun : Begun) (e answerer : ℕ) (answering : StationData) (words : List Word) (hits : List Hit) (status : ℕ) (shape : Shape) (n : ℕ) → k < 24 →
+        let before : Trace = trace k plan loads outside absent t in
+        let burst : Burst = burst_sent t hits words in
+        let over : ℕ = 40 * length words + suc k in
+        let after : Trace = trace k plan loads outside absent (t + over + n) in
+        ReplyDue k plan loads outside absent before place holder begun First e answerer answering words →
+        AwaitsFirst k begun (on_channel begun.state.channel before.shown) e →
+        NoneTakes k plan loads outside place t (t + over + n) → LeavesWhole plan.faults First before.driven hits words →
+        0 < length words → added_by hits ≡ 0 → read_answer begun.entry.item.kind First (slots_shown hits 0 words) 0 ≡ Good status →
+        (answers_of begun.entry.item.kind).second ≡ Some shape →
+        LeavesSettled k plan loads outside absent before.shown place answerer answerer begun.state.channel burst → k + n ≡ no_response →
+        (ticks : List Pair) × (sent : List (List Drive)) × (silent : List (List Drive))
+        × ReplyOver k plan loads outside absent before place begun.state.channel First answerer words hits t ticks sent silent
+        × (after.shown ≡ quiet_pairs n ++ (ticks ++ before.shown))
+        × Settled k plan loads outside absent after place holder
+        × (course_after k holder (starts plan holder) loads outside after.shown
+        ≡ close (course_after k holder (starts plan holder) loads outside before.shown) begun (without_words (NoResponse Second) (Some status) None)
+        (end_of burst + no_response)) }
 {}
