@@ -30,3 +30,4 @@ pub mod ReadLaw
 pub mod ReadKinds
 pub mod NoReply
 pub mod NoReplyAt
+pub mod Paused

@@ -10,7 +10,7 @@ use Rattle.bus_formats.specs.Plans.{TerminalData, StationData}
 use Rattle.bus_model.specs.Memory.{Memory, TimedLoad, with_loads}
 use Rattle.bus_model.specs.Hearing.{Hearing}
 use Rattle.bus_model.specs.Standing.{Standing, at_rest}
-use Rattle.bus_model.specs.Terminal.{standing, took_now, memory_after}
+use Rattle.bus_model.specs.Terminal.{standing, standing_after, took_now, memory_after}
 use Rattle.bus_model.specs.Control.{OutsideTake, StationSoFar, unheard, unheard_ticks, moment_of, outside_takes, course_after, hearing_after, keeps}
 use Rattle.bus_law_stations.specs.Silence.{quiet_moments, NothingDue}
 use Rattle.bus_law_stations.specs.Turns.{moments_of, TakesNothing, KeepsControl}
@@ -116,6 +116,12 @@ module _ (k : ℕ) (station : StationData) (starts : Bool) (loads : List TimedLo
       ∙ ap (λ (s : Standing). with_loads station.terminal.address (length past) loads s.memory)
       (unheard-stands k station.terminal loads (hearing past).memory past)
 
+  stands-memory : (past : List Pair) → HeardNothing k station starts loads outside past →
+      (standing_after k station.terminal loads (hearing past)).memory ≡ (hearing past).memory
+  stands-memory past nothing =
+      ap (λ ms. (standing k station.terminal loads (hearing past).memory ms).memory) nothing
+      ∙ ap (λ (s : Standing). s.memory) (unheard-stands k station.terminal loads (hearing past).memory past)
+
   module _ (past ticks : List Pair) (nothing : HeardNothing k station starts loads outside past)
       (controls : KeepsControl k station starts loads outside past ticks) where
     same-memory : (hearing (ticks ++ past)).memory ≡ (hearing past).memory
@@ -127,6 +133,12 @@ module _ (k : ℕ) (station : StationData) (starts : Bool) (loads : List TimedLo
         ap (λ (so : StationSoFar). so.hearing.ticks) (holding-hears k station starts loads outside past ticks controls)
         ∙ ap (λ ms. unheard_ticks ticks ++ ms) nothing
         ∙ unheard-append ticks past
+
+    -- it keeps what it kept
+    pub unheard-memory : (standing_after k station.terminal loads (hearing (ticks ++ past))).memory
+        ≡ (standing_after k station.terminal loads (hearing past)).memory
+    unheard-memory =
+        stands-memory (ticks ++ past) unheard-on ∙ same-memory ∙ sym (stands-memory past nothing)
 
     -- a memory of the table that is its own before is so then
     pub unheard-alike : (memory : Memory) →
