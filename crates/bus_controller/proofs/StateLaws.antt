@@ -189,7 +189,8 @@ module _ (k : ℕ) (small : k ≤ 3) (c : Course) (shown : Pair) (past : List Pa
   state-hears (states.Yielded s) st = yielded-hears s st
 
   -- without control a state stays as it is
-  pub serving-stays : (s : ControllerState) → StateStands k c past s → c.holds ≡ false → StateStands k (run_on k shown past c (runs_next past c)) (shown ∷ past) s
+  pub serving-stays : (s : ControllerState) → StateStands k c past s → c.holds ≡ false →
+      StateStands k (run_on k shown past c (runs_next past c)) (shown ∷ past) s
   serving-stays (states.Holding s) st off = (let bad : false ≡ true = sym off ∙ st.waits.holds in cc)
   serving-stays (states.Sending s) st off = (let bad : false ≡ true = sym off ∙ st.attempt.holds in cc)
   serving-stays (states.Expecting s) st off = (let bad : false ≡ true = sym off ∙ st.attempt.holds in cc)
