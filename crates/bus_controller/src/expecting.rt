@@ -4,7 +4,8 @@ ghost use Rattle.bus_base.specs.Samples.{sample_on, is_quiet};
 ghost use Rattle.bus_formats.specs.Times.{no_response};
 ghost use Rattle.bus_controller.specs.declared.states.ControllerState.TheVariants as states;
 ghost use Rattle.bus_line.specs.declared.cutter.TheConstants.{LAG};
-ghost use Rattle.bus_controller.specs.Steps.{expects, from_expecting, silent, runs_on, is_abandoned, cut_heard, kept, read, first_read, good_first, second_read, ends_first, going};
+ghost use Rattle.bus_controller.specs.Steps.{expects, from_expecting, silent, runs_on, is_abandoned, cut_heard};
+ghost use Rattle.bus_controller.specs.Steps.{kept, read, first_read, good_first, second_read, ends_first, going};
 ghost use Rattle.bus_controller.specs.Steps as spec;
 ghost use Rattle.bus_formats.specs.Forms.{answers_of};
 
