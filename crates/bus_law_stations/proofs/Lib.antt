@@ -13,3 +13,4 @@ pub mod Reading
 pub mod Unheeded
 pub mod Turning
 pub mod Due
+pub mod RunningOut

@@ -103,7 +103,7 @@ either-none : (b : Bool) (o : Option Handled) → o ≡ None → (if b then None
 either-none true o none = refl
 either-none false o none = none
 
-order-quiet : (k : ℕ) (t : TerminalData) (s : Standing) (c : Channel) (may : Bool) (heard : List Moment) → runs k (heard_on c heard) ≡ false →
+pub order-quiet : (k : ℕ) (t : TerminalData) (s : Standing) (c : Channel) (may : Bool) (heard : List Moment) → runs k (heard_on c heard) ≡ false →
     order_on k t (quiet_moment may ∷ heard) s c ≡ None
 order-quiet k t s c may heard none =
     either-none (ignored_from k (heard_on c heard) (mark_on s.sent c)) (order_of k t s c (ended_now k (heard_on c (quiet_moment may ∷ heard))))

@@ -17,7 +17,8 @@ pub use legs::{
 };
 pub use messages::{a_controller_sends_its_command, an_answer_is_read};
 pub use silence::{
-    quiet_ticks_change_no_controller, quiet_ticks_change_no_station, quiet_ticks_change_no_terminal,
+    a_promise_runs_out_in_silence, quiet_ticks_change_no_controller, quiet_ticks_change_no_station,
+    quiet_ticks_change_no_terminal,
 };
 pub use turns::{
     a_serving_station_hears_by_its_terminal, a_station_in_control_hears_by_its_controller,

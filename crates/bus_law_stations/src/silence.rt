@@ -1,11 +1,16 @@
 //! Quiet ticks change nothing of a station before something is due. Laws alone, each the contract of an empty function.
 
-ghost use Rattle.std.specs.Prelude.{◌≡◌, ℕ, suc, Bool, List, [], ◌∷◌, ◌++◌, length, None};
+ghost use Rattle.std.specs.Prelude.{◌≡◌, ℕ, suc, ◌+◌, Bool, true, false, List, [], ◌∷◌, ◌++◌, length, None};
 ghost use Rattle.bus_base.specs.declared.samples.Drive.TheVariants.{Silent};
+ghost use Rattle.bus_base.specs.declared.samples.Channel.{Channel};
 ghost use Rattle.bus_base.specs.declared.samples.Pair.{Pair};
+ghost use Rattle.bus_line.specs.Past.{runs, heard_within};
 ghost use Rattle.bus_formats.specs.Plans.{TerminalData, StationData};
-ghost use Rattle.bus_model.specs.Memory.{Memory, TimedLoad};
-ghost use Rattle.bus_model.specs.Hearing.{Moment};
+ghost use Rattle.bus_model.specs.Waits.{relay_wait};
+ghost use Rattle.bus_model.specs.Memory.{Memory, TimedLoad, with_loads};
+ghost use Rattle.bus_model.specs.Orders.{Obeyed, free, unkept};
+ghost use Rattle.bus_model.specs.Standing.{Standing, promised_on};
+ghost use Rattle.bus_model.specs.Hearing.{Moment, heard_on};
 ghost use Rattle.bus_model.specs.Terminal.{standing, standing_after, drives, took_now, accepted_now};
 ghost use Rattle.bus_model.specs.Course.{Take, course, drive_course};
 ghost use Rattle.bus_model.specs.Control.{OutsideTake, so_far, course_after, hearing_after, drives_next};
@@ -56,4 +61,15 @@ pub fn quiet_ticks_change_no_station()
         ≡ standing_after k station.terminal loads (hearing_after k station starts loads outside past) }
     ensures silent { (k : ℕ) (station : StationData) (starts : Bool) (loads : List TimedLoad) (outside : List OutsideTake) (past : List Pair) (n : ℕ) →
         StationRests k station starts loads outside past (suc n) → drives_next k station starts loads outside (quiet_pairs n ++ past) ≡ Silent }
+{}
+
+/// A promise that stands runs out with the 31st quiet tick after the burst in which it was made, as one that isn't kept: message error is set, and
+/// nothing is owed (MIL-STD-1553B 4.4.3.5; the 31 ticks are the project's own). At every lag.
+pub fn a_promise_runs_out_in_silence()
+    ensures { (k : ℕ) (terminal : TerminalData) (loads : List TimedLoad) (memory : Memory) (heard : List Moment) (may : Bool) →
+        let s : Standing = standing k terminal loads memory heard in
+        let o : Obeyed = unkept terminal (with_loads terminal.address (length heard) loads s.memory) s.channel in
+        ((c : Channel) → runs k (heard_on c heard) ≡ false) → promised_on k s s.channel ≡ true → length heard ≡ s.end + relay_wait →
+        heard_within (heard_on s.channel heard) s.end (suc (length heard)) ≡ false →
+        (standing k terminal loads memory (quiet_moments (may ∷ []) ++ heard) ≡ record s { memory = o.memory; duty = o.duty }) × (o.duty ≡ free) }
 {}
