@@ -2,8 +2,9 @@
 //! of an empty function, over the world of any plan. Proved: the world begins settled, and pauses until a message starts; from a settled moment
 //! the station in control sends its command alone, and every other station obeys it or passes over it; a message without an answer is Sent, and one
 //! that nobody answers ends without a response; an answer comes when it is due, and the only one of its message ends it Clear, if it is good, or as
-//! it is read; and after each of them the world is settled again. Of what no fault strikes it is proved which terminals find a command in it, and who
-//! owes an answer to it; and by all of these the smallest plan with a message is run to its end.
+//! it is read; a relay's transmitter is heard by those that promised to take its words, and its receiver answers or doesn't; and after each of them
+//! the world is settled again. Of what no fault strikes it is proved which terminals find a command in it, and who owes or promises what; and by all
+//! of these the smallest plan with a message is run to its end.
 #![tactic(auto)]
 
 pub mod commands;
