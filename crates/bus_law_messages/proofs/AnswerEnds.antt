@@ -98,7 +98,11 @@ module _ (k : ℕ) (plan : PlanData) (loads : List TimedLoad) (outside : List Ou
         (nothing other station there away apart present)
   ]
 
-  pub ended-settled : Settled k plan loads outside absent record { shown = (x ∷ ticks) ++ before.shown; driven = silent ++ (sent ++ before.driven) } place holder
+  pub ended-settled : Settled k plan loads outside absent record {
+    shown = (x ∷ ticks) ++ before.shown;
+    driven = silent ++
+        (sent ++ before.driven);
+  } place holder
   ended-settled = record {
     rests = so.rests;
     undriven = so.undriven;

@@ -119,7 +119,8 @@ module _ (k : ℕ) (t : TerminalData) (loads : List TimedLoad) (memory : Memory)
 
   pub end-accepts-not : accepted_now k t loads record { memory = memory; ticks = now ∷ (ticks ++ heard) } ≡ None
   end-accepts-not =
-      let m = running-marks k t loads memory c heard ticks small (listening-ready k t s c heard frees) (listening-hears k t s c heard ticks frees leg before-quiet) in
+      let m = running-marks k t loads memory c heard ticks small (listening-ready k t s c heard frees)
+      (listening-hears k t s c heard ticks frees leg before-quiet) in
       ap (accepted_on k t loads now (ticks ++ heard)) m.1
       ∙ accepts-late k t loads (heard_on s.channel (ticks ++ heard)) (sample_on now.shown s.channel) (with_addressed s c m.0) s.duty (length heard)
       (first-of s.channel) (listening-ready k t s c heard frees).answer

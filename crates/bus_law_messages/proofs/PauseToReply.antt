@@ -116,7 +116,8 @@ module _ (k : ℕ) (plan : PlanData) (loads : List TimedLoad) (outside : List Ou
       | inl same ↦ ap (λ i. station_drive i (drives_after k plan loads outside absent (quiet_pairs m ++ mid.shown))) same
           ∙ ap drive_or (place-drives k plan loads outside absent (quiet_pairs m ++ mid.shown) answerer answering Silent a.there_too a.present_too
           (owing-silent k answering (starts plan answering) loads outside mid.shown c part words e a.owes n due answerer-stays m few))
-      | inr aside ↦ place-silent k plan loads outside absent (quiet_pairs m ++ mid.shown) station (λ other here is. others_quiet m few station other here away aside is)
+      | inr aside ↦ place-silent k plan loads outside absent (quiet_pairs m ++ mid.shown) station
+          (λ other here is. others_quiet m few station other here away aside is)
     ]
   ]
 

@@ -90,9 +90,11 @@ second-silent-at k plan loads outside absent t place holder begun e answerer ans
     λ other station here away tick low high. stays other station here away tick (omega (arith, low, mids)) (omega (arith, high, mids)) in
     let serves = λ (other : ℕ) (station : StationData) (here : slice_get plan.stations other ≡ Some station) (away : other ≢ place)
     (is : is_present absent station ≡ true).
-    serves-then k plan loads outside absent before place t holder begun First e answerer answering words hits due o.0 o.1 o.2 o.3 o.4 answerer left other station
+    serves-then k plan loads outside absent before place t holder begun First e answerer answering words hits due o.0 o.1 o.2 o.3 o.4 answerer left
+    other station
     here away (inr refl) is in
-    let q = pauses-silent k plan loads outside absent mid place holder begun x p o.4.rests o.4.undriven o.4.spent due.there due.present v at serves then_stays in
+    let q = pauses-silent k plan loads outside absent mid place holder begun x p o.4.rests o.4.undriven o.4.spent due.there due.present v at serves
+    then_stays in
     let again = settled-silent k plan loads outside absent mid place holder begun x p o.4.rests o.4.undriven o.4.spent due.there due.present v at serves
     then_stays q.0 q.1.1 in
     let ends = course-then k plan loads outside absent mid place holder begun x p o.4.rests o.4.undriven o.4.spent due.there due.present v at serves then_stays

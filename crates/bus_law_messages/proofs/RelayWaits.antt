@@ -103,7 +103,8 @@ receiver-due-at k plan loads outside absent t place holder begun e answerer answ
       apart = apart;
       there_too = there;
       present_too = present;
-      owes = owing-then k receiving (starts plan receiving) loads outside before.shown c (o.0 ∷ o.1) burst (due.others receiver receiving there apart aside present)
+      owes = owing-then k receiving (starts plan receiving) loads outside before.shown c (o.0 ∷ o.1) burst
+          (due.others receiver receiving there apart aside present)
           (o.4.heard receiver receiving there apart aside present) o.4.quiets command transmitter answer last made owed;
     } in
     let then_stays : NoneTakes k plan loads outside place (length mid.shown) (length mid.shown + n) =
@@ -112,7 +113,8 @@ receiver-due-at k plan loads outside absent t place holder begun e answerer answ
     let prompt_mid : length mid.shown + n ≤ x + no_response = omega (arith, mids, prompt) in
     let serves = λ (other : ℕ) (station : StationData) (here : slice_get plan.stations other ≡ Some station) (away : other ≢ place) (besides : other ≢ receiver)
     (is : is_present absent station ≡ true).
-    serves-then k plan loads outside absent before place t holder begun First e answerer answering words hits due o.0 o.1 o.2 o.3 o.4 receiver left other station
+    serves-then k plan loads outside absent before place t holder begun First e answerer answering words hits due o.0 o.1 o.2 o.3 o.4 receiver left
+    other station
     here away (inl besides) is in
     let others_quiet = λ (m : ℕ) (few : m < n) (other : ℕ) (station : StationData) (here : slice_get plan.stations other ≡ Some station)
     (away : other ≢ place) (besides : other ≢ receiver) (is : is_present absent station ≡ true).
@@ -121,7 +123,8 @@ receiver-due-at k plan loads outside absent t place holder begun e answerer answ
     let p = pauses k plan loads outside absent mid place holder begun Second receiver receiving answer x a n due_mid prompt_mid others_quiet then_stays in
     let is = due-then k plan loads outside absent mid place holder begun Second receiver receiving answer x a n due_mid prompt_mid others_quiet then_stays
     p.0 p.1.1 (λ other station here away besides is. serving-listens k station (starts plan station) loads outside (quiet_pairs n ++ mid.shown) c
-    (serving-still k station (starts plan station) loads outside mid.shown (serves other station here away besides is) n (then_stays other station here away))) in
+    (serving-still k station (starts plan station) loads outside mid.shown (serves other station here away besides is) n
+    (then_stays other station here away))) in
     let q = second-quiet k begun n (on_channel c mid.shown) x r.0 in
     let v : (u : AwaitsSecond k begun (on_channel c (quiet_pairs n ++ mid.shown)) x) × (u.status ≡ status) =
     subst (λ xs. (u : AwaitsSecond k begun xs x) × (u.status ≡ status)) (sym (on-quiet c n mid.shown)) (q.0, q.1 ∙ r.1) in

@@ -162,7 +162,8 @@ module _ (k : ℕ) (station : StationData) (starts : Bool) (loads : List TimedLo
   -- it obeyed a command, which left nothing or a promise
   module _ (none : is_promise s.duty ≡ false) (long : length (ticks ++ past) ≡ end_of burst + suc k) (small : k < 24)
       (began : length past ≤ end_of burst)
-      (left : (order : Order) → last_order t.address burst.slots ≡ Some order → ((obeys order).duty ≡ orders.free) ⊎ (is_promise (obeys order).duty ≡ true)) where
+      (left : (order : Order) → last_order t.address burst.slots ≡ Some order → ((obeys order).duty ≡ orders.free) ⊎ (is_promise
+      (obeys order).duty ≡ true)) where
     many : length (later ++ hearing.ticks) ≡ end_of burst + suc k
     many =
         ap (λ (x : Hearing). length x.ticks) (sym h.hears) ∙ hearing-long k station starts loads outside (ticks ++ past) ∙ long

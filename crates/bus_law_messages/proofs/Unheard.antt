@@ -45,7 +45,8 @@ pub unheard-at : (k : ℕ) (plan : PlanData) (loads : List TimedLoad) (outside :
     × CommandOver k plan loads outside absent before place holder begun hits ticks sent silent
     × (after.shown ≡ quiet_pairs n ++ (ticks ++ before.shown))
     × Settled k plan loads outside absent after place holder
-    × (course_after k holder (starts plan holder) loads outside after.shown ≡ close c begun (without_words (NoResponse First) None None) (end_of burst + no_response))
+    × (course_after k holder (starts plan holder) loads outside after.shown ≡ close c begun (without_words (NoResponse First) None None)
+    (end_of burst + no_response))
 unheard-at k plan loads outside absent t place holder entry hits shape zero small settled begins expects stays whole added unanswered last =
     absurd (omega (arith, small, last))
 unheard-at k plan loads outside absent t place holder entry hits shape (suc p) small settled begins expects stays whole added unanswered last =

@@ -152,7 +152,8 @@ module _ (k : ℕ) (station : StationData) (starts : Bool) (loads : List TimedLo
         × (course_after k station starts loads outside ((x ∷ ticks) ++ past) ≡ c)
     relayed-course small w shape status good second =
         let long : length (ticks ++ past) ≡ length ticks + length past = length-append ticks past in
-        let r = first-is-relayed k station starts takes past begun e taken answered small w ticks x burst shape status (shows ticks alone) ended good second in (
+        let r = first-is-relayed k station starts takes past begun e taken answered small w ticks x burst shape status
+        (shows ticks alone) ended good second in (
           r.1,
           relayed-status k station starts takes past begun e taken answered small w ticks x burst shape status (shows ticks alone) ended good second,
           end-course c r.0 (held.before (length (ticks ++ past)) (omega (arith, long))),
