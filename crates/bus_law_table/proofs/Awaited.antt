@@ -1,5 +1,5 @@
 -- While the answer to a command is awaited: the station in control keeps control, and of every other one nothing is due.
-use Rattle.std.proofs.Common.{◌≡◌, ◌≢◌, inl, inr, ℕ, suc, ◌+◌, ◌≤◌, true, false, List, ◌++◌, length, Some, None, sym, ap, ◌∙◌, subst, arith}
+use Rattle.std.proofs.Common.{◌≡◌, ◌≢◌, ◌<◌, inl, inr, ℕ, suc, ◌+◌, ◌≤◌, true, false, List, ◌++◌, length, Some, None, sym, ap, ◌∙◌, subst, arith}
 use Rattle.std.proofs.lemmas.Bool.{cases_eq, true≢false}
 use Rattle.std.proofs.lemmas.Option.{same_Some, none-some}
 use Rattle.std.specs.Prelude.{slice_get, not}
@@ -26,7 +26,7 @@ use Rattle.bus_model.specs.Terminal.{standing_after}
 use Rattle.bus_model.specs.Attempts.{Begun}
 use Rattle.bus_model.specs.Course.{Course}
 use Rattle.bus_model.specs.Control.{OutsideTake, yielded_in, course_after, hearing_after}
-use Rattle.bus_model.specs.World.{Trace, is_present}
+use Rattle.bus_model.specs.World.{Trace, is_present, drives_after}
 use Rattle.bus_law_stations.specs.Silence.{quiet_pairs, NothingStarts, StationRests}
 use Rattle.bus_law_stations.specs.Legs.{obeyed_in, after_command}
 use Rattle.bus_law_stations.specs.Messages.{with_running}
@@ -39,10 +39,14 @@ use Rattle.bus_law_messages.specs.Answers.{LeavesNothing}
 use Rattle.bus_law_table.proofs.Idle.{moments-shown}
 use Rattle.bus_law_messages.proofs.Heard.{hearing-long}
 use Rattle.bus_law_messages.proofs.Unanswered.{serving-again}
-use Rattle.bus_law_messages.proofs.Pausing.{same-course}
+use Rattle.bus_law_messages.proofs.Pausing.{same-course, holder-silent}
+use Rattle.bus_law_stations.proofs.StillStation.{still-quiet}
 use Rattle.bus_law_table.proofs.Quiet.{quiet-kept}
 use Rattle.bus_law_table.proofs.Still.{serving-rests}
 use Rattle.bus_law_table.proofs.Waits as waits
+use Rattle.bus_model.specs.Transmissions.{drive_or, station_drive}
+use Rattle.bus_base.specs.declared.samples.Drive.TheVariants.{Silent}
+use Rattle.bus_law_messages.proofs.Sending.{place-silent, place-drives}
 use Rattle.bus_law_stations.specs.Turns.{KeepsControl}
 
 module _ (k : ℕ) (plan : PlanData) (loads : List TimedLoad) (outside : List OutsideTake) (absent : List ℕ) (before : Trace) (place : ℕ)
@@ -182,3 +186,17 @@ module _ (k : ℕ) (plan : PlanData) (loads : List TimedLoad) (outside : List Ou
     | inr aside ↦ serving-rests k plan loads outside absent st mid.shown (mid-serving other st at away aside is) m
         (λ tick low high. stays other st at away tick low (omega (arith, high, few)))
   ]
+
+  -- and nobody drives a channel
+  pub wait-silent : (m : ℕ) → m < n → (station : ℕ) →
+      station_drive station (drives_after k plan loads outside absent (quiet_pairs m ++ mid.shown)) ≡ Silent
+  wait-silent m few station =
+      let early : length mid.shown + suc m ≤ e + no_response = let long = mid-long in omega (arith, long, few, prompt) in
+      elim (cases_eq station place) [
+        | inl same ↦ ap (λ i. station_drive i (drives_after k plan loads outside absent (quiet_pairs m ++ mid.shown))) same
+            ∙ ap drive_or (place-drives k plan loads outside absent (quiet_pairs m ++ mid.shown) place holder Silent settled.there settled.present
+            (holder-silent k holder (starts plan holder) loads outside mid.shown mid-holds mid-before m
+            (waits.waits-on k plan loads outside absent before place holder begun hits ticks sent silent long settled over shape expects (suc m) early)))
+        | inr away ↦ place-silent k plan loads outside absent (quiet_pairs m ++ mid.shown) station (λ st at is.
+            still-quiet k st (starts plan st) loads outside mid.shown m (wait-rests (suc m) few station st at away is))
+      ]

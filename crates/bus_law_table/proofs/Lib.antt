@@ -31,3 +31,6 @@ pub mod ReadKinds
 pub mod NoReply
 pub mod NoReplyAt
 pub mod Paused
+pub mod Counting
+pub mod Counted
+pub mod SameAttempt

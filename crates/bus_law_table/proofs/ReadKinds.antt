@@ -63,7 +63,6 @@ pub clear-at : (k : ℕ) (plan : PlanData) (loads : List TimedLoad) (outside : L
     Settled k plan loads outside absent before place holder → HeardNothing k holder (starts plan holder) loads outside before.shown →
     BeginsMessage c before.shown entry → (answers_of entry.item.kind).first ≡ Some shape → (answers_of entry.item.kind).second ≡ None →
     entry.item.abandon ≡ None → NoneTakes k plan loads outside place t (due + over) → IsUnstruck plan.faults attempt →
-    attempt_to_come plan.faults First (trace k plan loads outside absent due).driven ≡ attempt →
     All (λ (word : Word). word.bits < 65536) (command_words entry.item.kind) → All (λ (word : Word). word.bits < 65536) words → 0 < length words →
     IsNamedApart plan place holder → IsNamedApart plan answerer answering → ArePresent k plan loads outside absent before.shown stations →
     answerer ≢ place → slice_get plan.stations answerer ≡ Some answering → is_present absent answering ≡ true →
@@ -75,11 +74,11 @@ pub clear-at : (k : ℕ) (plan : PlanData) (loads : List TimedLoad) (outside : L
     IsForNoOther plan absent place answerer (burst_sent due [] words) →
     MessageTold k plan loads outside absent before (trace k plan loads outside absent (due + over)) place holder begun m
 clear-at k plan loads outside absent t place holder entry stations shape answerer answering words order n status small settled unheard begins expects only kept
-    stays strikes counted fit fit_words some apart named are away there present last owed nothing due prompt good passes =
+    stays strikes fit fit_words some apart named are away there present last owed nothing due prompt good passes =
     let same = (unstruck words fit_words).1 in
     let when : ℕ = t + (40 * length (command_words entry.item.kind) + suc k) + n in
     read-law k plan loads outside absent t place holder entry stations shape answerer answering words order n small settled unheard begins expects kept stays
-    strikes counted fit fit_words some apart named are away there present last owed nothing due prompt passes
+    strikes fit fit_words some apart named are away there present last owed nothing due prompt passes
     (record (without_words Clear (Some status) None) { words = kept_words entry.item.kind (whole_slots words) }) refl
     (λ shown heard. ap (λ ss. controller.first_read k entry.item shown heard (burst_sent when [] words) (read_answer entry.item.kind First ss 0)) same
     ∙ ap (controller.first_read k entry.item shown heard (burst_sent when [] words)) good
@@ -102,7 +101,6 @@ pub ends-at : (k : ℕ) (plan : PlanData) (loads : List TimedLoad) (outside : Li
     Settled k plan loads outside absent before place holder → HeardNothing k holder (starts plan holder) loads outside before.shown →
     BeginsMessage c before.shown entry → (answers_of entry.item.kind).first ≡ Some shape →
     entry.item.abandon ≡ None → NoneTakes k plan loads outside place t (due + over) → IsUnstruck plan.faults attempt →
-    attempt_to_come plan.faults First (trace k plan loads outside absent due).driven ≡ attempt →
     All (λ (word : Word). word.bits < 65536) (command_words entry.item.kind) → All (λ (word : Word). word.bits < 65536) words → 0 < length words →
     IsNamedApart plan place holder → IsNamedApart plan answerer answering → ArePresent k plan loads outside absent before.shown stations →
     answerer ≢ place → slice_get plan.stations answerer ≡ Some answering → is_present absent answering ≡ true →
@@ -116,11 +114,11 @@ pub ends-at : (k : ℕ) (plan : PlanData) (loads : List TimedLoad) (outside : Li
     MessageTold k plan loads outside absent before (trace k plan loads outside absent (due + over)) place holder begun m
 ends-at k plan loads outside absent t place holder entry stations shape answerer answering words order n outcome status small settled unheard begins expects
     kept
-    stays strikes counted fit fit_words some apart named are away there present last owed nothing due prompt ends once keeps passes =
+    stays strikes fit fit_words some apart named are away there present last owed nothing due prompt ends once keeps passes =
     let same = (unstruck words fit_words).1 in
     let when : ℕ = t + (40 * length (command_words entry.item.kind) + suc k) + n in
     read-law k plan loads outside absent t place holder entry stations shape answerer answering words order n small settled unheard begins expects kept stays
-    strikes counted fit fit_words some apart named are away there present last owed nothing due prompt passes (without_words outcome status None) keeps
+    strikes fit fit_words some apart named are away there present last owed nothing due prompt passes (without_words outcome status None) keeps
     (λ shown heard. ap (λ ss. controller.first_read k entry.item shown heard (burst_sent when [] words) (read_answer entry.item.kind First ss 0)) same
     ∙ ap (controller.first_read k entry.item shown heard (burst_sent when [] words)) ends
     ∙ at-once k entry.item shown heard (burst_sent when [] words) (is_offer entry.item.kind) outcome status once)

@@ -1,8 +1,9 @@
 -- A message with one answer, which ends it, by the numbers of its ticks.
-use Rattle.std.proofs.Common.{◌≡◌, ◌≢◌, ℕ, suc, ◌+◌, ◌*◌, ◌<◌, ◌≤◌, true, false, List, [], length, map, Some, None, refl, sym, ap, ◌∙◌, subst, arith, All}
+use Rattle.std.proofs.Common.{◌≡◌, ◌++◌, ◌∷◌, length-append, ◌≢◌, ℕ, suc, ◌+◌, ◌*◌, ◌<◌, ◌≤◌, true, false, List, [], length, map, Some, None, refl, sym, ap, ◌∙◌, subst, arith, All}
 use Rattle.std.proofs.lemmas.Option.{none-some}
 use Rattle.std.specs.Prelude.{slice_get}
 use Rattle.bus_base.specs.declared.samples.Channel.{Channel}
+use Rattle.bus_base.specs.declared.samples.Drive.{Drive}
 use Rattle.bus_base.specs.declared.samples.Pair.{Pair}
 use Rattle.bus_base.specs.declared.samples.Part.TheVariants.{Command, First}
 use Rattle.bus_words.specs.declared.word.Word.{Word}
@@ -32,7 +33,7 @@ use Rattle.bus_law_stations.specs.Legs.{obeyed_in}
 use Rattle.bus_law_stations.specs.Messages.{BeginsMessage, message_begun}
 use Rattle.bus_law_messages.specs.Settled.{Settled, NoneTakes}
 use Rattle.bus_law_messages.specs.Commands.{LeavesWhole}
-use Rattle.bus_law_messages.specs.Ends.{burst_sent}
+use Rattle.bus_law_messages.specs.Ends.{burst_sent, CommandOver}
 use Rattle.bus_law_messages.specs.Answers.{LeavesNothing}
 use Rattle.bus_law_messages.specs.AnswerRead.{AnswerRead}
 use Rattle.bus_law_messages.specs.Addressed.{IsForNoOther}
@@ -42,6 +43,10 @@ use Rattle.bus_law_messages.proofs.Sending.{shown-long}
 use Rattle.bus_law_table.specs.Stations.{ArePresent, IsUnstruck, IsNamedApart, HeardNothing}
 use Rattle.bus_law_table.specs.Tells.{MessageTold}
 use Rattle.bus_law_table.proofs.ReadFrom.{tells}
+use Rattle.bus_law_table.proofs.SameAttempt.{same-attempt}
+use Rattle.bus_law_messages.proofs.Unanswered.{trace-later}
+use Rattle.bus_model.specs.World.{ticks_on}
+use Rattle.bus_law_stations.specs.Silence.{quiet_pairs}
 
 -- no other terminal finds a command in the answer, so it leaves nothing of them
 passed-over : (k : ℕ) (plan : PlanData) (loads : List TimedLoad) (outside : List OutsideTake) (absent : List ℕ) (past : List Pair) (place answerer : ℕ)
@@ -82,7 +87,6 @@ module _ (k : ℕ) (plan : PlanData) (loads : List TimedLoad) (outside : List Ou
       (unheard : HeardNothing k holder (starts plan holder) loads outside before.shown) (begins : BeginsMessage c before.shown entry)
       (expects : (answers_of entry.item.kind).first ≡ Some shape) (kept : entry.item.abandon ≡ None)
       (stays : NoneTakes k plan loads outside place t (due_tick + over)) (strikes : IsUnstruck plan.faults attempt)
-      (counted : attempt_to_come plan.faults First (trace k plan loads outside absent due_tick).driven ≡ attempt)
       (fit : All (λ (word : Word). word.bits < 65536) (command_words entry.item.kind)) (fit_words : All (λ (word : Word). word.bits < 65536) words)
       (some : 0 < length words) (apart : IsNamedApart plan place holder) (named : IsNamedApart plan answerer answering)
       (are : ArePresent k plan loads outside absent before.shown stations) (away : answerer ≢ place)
@@ -99,6 +103,28 @@ module _ (k : ℕ) (plan : PlanData) (loads : List TimedLoad) (outside : List Ou
       (table_reads : (first : ShownAnswer) → first.burst.slots ≡ map (λ word. Some word) words →
       first_read k entry.item.kind first None (read_answer entry.item.kind First (map (λ word. Some word) words) 0) ≡ ends_so e (burst_end first.burst + k))
     where
+      -- the answer belongs to the attempt of its command
+      counted-by : (ticks : List Pair) (sent silent : List (List Drive)) →
+          CommandOver k plan loads outside absent before place holder begun [] ticks sent silent →
+          (trace k plan loads outside absent due_tick).shown ≡ quiet_pairs n ++ (ticks ++ before.shown) →
+          attempt_to_come plan.faults First (trace k plan loads outside absent due_tick).driven ≡ attempt
+      counted-by [] sent silent done is =
+          let many : 0 ≡ 40 * length (command_words entry.item.kind) + suc k = done.ends.many in absurd (omega (arith, many))
+      counted-by (x ∷ ticks) sent silent done is =
+          let long : length before.shown ≡ t = shown-long k plan loads outside absent t in
+          let many : suc (length ticks) ≡ 40 * length (command_words entry.item.kind) + suc k = done.ends.many in
+          let both : length (ticks ++ before.shown) ≡ length ticks + length before.shown = length-append ticks before.shown in
+          let later = sym (trace-later k plan loads outside absent (t + (40 * length (command_words entry.item.kind) + suc k)) n)
+          ∙ ap (λ tr. ticks_on k plan loads outside absent tr n)
+          (sym (trace-later k plan loads outside absent t (40 * length (command_words entry.item.kind) + suc k))) in
+          ap (λ (tr : Trace). attempt_to_come plan.faults First tr.driven) later
+          ∙ same-attempt k plan loads outside absent before place t holder entry long small settled begins
+          (λ other st here off tick low high. stays other st here off tick (omega (arith, low, long)) (omega (arith, high, long))) fit strikes x ticks sent
+          silent
+          done shape expects kept answerer answering words away there present order last owed nothing n due prompt
+          (λ other st here off tick low high. stays other st here off tick (omega (arith, low, both, long)) (omega (arith, high, both, many, long)))
+          (sym (ap (λ (tr : Trace). tr.shown) later) ∙ is)
+
       pub read-law : MessageTold k plan loads outside absent before (trace k plan loads outside absent (due_tick + over)) place holder begun m
       read-law =
           let whole : LeavesWhole plan.faults Command before.driven [] (command_words entry.item.kind) =
@@ -107,7 +133,7 @@ module _ (k : ℕ) (plan : PlanData) (loads : List TimedLoad) (outside : List Ou
           (λ other st here off tick low high. stays other st here off tick low (omega (arith, high))) whole refl away there present last owed nothing due
           prompt in
           let whole_too : LeavesWhole plan.faults First (trace k plan loads outside absent due_tick).driven [] words = record {
-            named = ap (λ i. hits_on plan.faults i First) counted ∙ strikes First;
+            named = ap (λ i. hits_on plan.faults i First) (counted-by d.0 d.1 d.2 d.3 d.4) ∙ strikes First;
             heard = (unstruck words fit_words).0;
             uncut = λ i low. refl;
           } in

@@ -69,9 +69,9 @@ pub fn a_message_that_nobody_answers_is_told()
 {}
 
 /// A message that expects one answer, which one terminal owes and which is good, of an attempt that no fault names, is what the message table says
-/// of it: from a settled moment at which it begins to the tick in which it ends. The answer comes when it is due, and belongs to the same attempt;
-/// no other terminal owes or promises anything to the command, and none finds a command in the answer. At every lag below the wait for an answer, for
-/// any loads, with any stations absent.
+/// of it: from a settled moment at which it begins to the tick in which it ends. The answer comes when it is due; no other terminal owes or promises
+/// anything to the command, and none finds a command in the answer. At every lag below the wait for an answer, for any loads, with any stations
+/// absent.
 pub fn a_message_with_a_good_answer_is_told()
     ensures { (k : ℕ) (plan : PlanData) (loads : List TimedLoad) (outside : List OutsideTake) (absent : List ℕ) (t place : ℕ) (holder : StationData)
         (entry : Entry) (stations : List Present) (shape : Shape) (answerer : ℕ) (answering : StationData) (words : List Word) (order : Order)
@@ -86,7 +86,6 @@ pub fn a_message_with_a_good_answer_is_told()
         Settled k plan loads outside absent before place holder → HeardNothing k holder (starts plan holder) loads outside before.shown →
         BeginsMessage c before.shown entry → (answers_of entry.item.kind).first ≡ Some shape → (answers_of entry.item.kind).second ≡ None →
         entry.item.abandon ≡ None → NoneTakes k plan loads outside place t (due + over) → IsUnstruck plan.faults attempt →
-        attempt_to_come plan.faults First (trace k plan loads outside absent due).driven ≡ attempt →
         All (λ (word : Word). word.bits < 65536) (command_words entry.item.kind) → All (λ (word : Word). word.bits < 65536) words → 0 < length words →
         IsNamedApart plan place holder → IsNamedApart plan answerer answering → ArePresent k plan loads outside absent before.shown stations →
         answerer ≢ place → slice_get plan.stations answerer ≡ Some answering → is_present absent answering ≡ true →
@@ -115,7 +114,6 @@ pub fn a_message_whose_answer_ends_it_is_told()
         Settled k plan loads outside absent before place holder → HeardNothing k holder (starts plan holder) loads outside before.shown →
         BeginsMessage c before.shown entry → (answers_of entry.item.kind).first ≡ Some shape →
         entry.item.abandon ≡ None → NoneTakes k plan loads outside place t (due + over) → IsUnstruck plan.faults attempt →
-        attempt_to_come plan.faults First (trace k plan loads outside absent due).driven ≡ attempt →
         All (λ (word : Word). word.bits < 65536) (command_words entry.item.kind) → All (λ (word : Word). word.bits < 65536) words → 0 < length words →
         IsNamedApart plan place holder → IsNamedApart plan answerer answering → ArePresent k plan loads outside absent before.shown stations →
         answerer ≢ place → slice_get plan.stations answerer ≡ Some answering → is_present absent answering ≡ true →
