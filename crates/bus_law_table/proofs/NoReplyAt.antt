@@ -1,4 +1,6 @@
 -- A message that expects an answer and gets none, by the numbers of its ticks.
+use Rattle.bus_formats.specs.Accepted.{AreWords, HasKindRanges, words_sent}
+use Rattle.bus_law_messages.proofs.Spoken.{command-fits}
 use Rattle.std.proofs.Common.{◌≡◌, ℕ, suc, ◌+◌, ◌*◌, ◌<◌, List, [], ◌∷◌, ◌++◌, length, Some, None, refl, sym, ap, ◌∙◌, subst, arith, length-append, All}
 use Rattle.bus_base.specs.declared.samples.Drive.{Drive}
 use Rattle.bus_base.specs.declared.samples.Pair.{Pair}
@@ -108,9 +110,12 @@ pub no-reply-at : (k : ℕ) (plan : PlanData) (loads : List TimedLoad) (outside 
     let over : ℕ = 40 * length words + suc k in
     Settled k plan loads outside absent before place holder → HeardNothing k holder (starts plan holder) loads outside before.shown →
     BeginsMessage c before.shown entry → (answers_of entry.item.kind).first ≡ Some shape → NoneTakes k plan loads outside place t (t + over + n) →
-    IsUnstruck plan.faults attempt → All (λ (word : Word). word.bits < 65536) words → IsNamedApart plan place holder →
+    IsUnstruck plan.faults attempt → HasKindRanges entry.item.kind → AreWords (words_sent entry.item.kind) → IsNamedApart plan place holder →
     ArePresent k plan loads outside absent before.shown stations →
     IsUnanswered k plan loads outside absent before.shown place begun.state.channel (burst_sent t [] words) → k + n ≡ no_response →
     MessageTold k plan loads outside absent before (trace k plan loads outside absent (t + over + n)) place holder begun m
-no-reply-at k plan loads outside absent t place holder entry stations shape n small settled unheard begins expects stays strikes fit apart are unanswered late =
-    told k plan loads outside absent t place holder entry stations shape n small settled unheard begins expects stays strikes fit apart are unanswered late
+no-reply-at k plan loads outside absent t place holder entry stations shape n small settled unheard begins expects stays strikes ranges numbers apart are
+    unanswered
+    late =
+    told k plan loads outside absent t place holder entry stations shape n small settled unheard begins expects stays strikes
+    (command-fits entry.item.kind ranges numbers) apart are unanswered late

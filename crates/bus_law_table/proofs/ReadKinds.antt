@@ -1,4 +1,6 @@
 -- A message with one answer, by how that answer is read: it is good, or ends the message otherwise.
+use Rattle.bus_formats.specs.Accepted.{AreWords, HasKindRanges, words_sent}
+use Rattle.bus_law_messages.proofs.Spoken.{command-fits}
 use Rattle.std.proofs.Common.{◌≡◌, ◌≢◌, ℕ, suc, ◌+◌, ◌*◌, ◌<◌, ◌≤◌, Bool, true, false, List, [], length, Option, Some, None, refl, sym, ap, ◌∙◌, All}
 use Rattle.std.proofs.lemmas.Bool.{true≢false}
 use Rattle.bus_base.specs.declared.samples.Pair.{Pair}
@@ -63,7 +65,7 @@ pub clear-at : (k : ℕ) (plan : PlanData) (loads : List TimedLoad) (outside : L
     Settled k plan loads outside absent before place holder → HeardNothing k holder (starts plan holder) loads outside before.shown →
     BeginsMessage c before.shown entry → (answers_of entry.item.kind).first ≡ Some shape → (answers_of entry.item.kind).second ≡ None →
     entry.item.abandon ≡ None → NoneTakes k plan loads outside place t (due + over) → IsUnstruck plan.faults attempt →
-    All (λ (word : Word). word.bits < 65536) (command_words entry.item.kind) → All (λ (word : Word). word.bits < 65536) words → 0 < length words →
+    HasKindRanges entry.item.kind → AreWords (words_sent entry.item.kind) → All (λ (word : Word). word.bits < 65536) words → 0 < length words →
     IsNamedApart plan place holder → IsNamedApart plan answerer answering → ArePresent k plan loads outside absent before.shown stations →
     answerer ≢ place → slice_get plan.stations answerer ≡ Some answering → is_present absent answering ≡ true →
     last_order answering.terminal.address burst.slots ≡ Some order →
@@ -74,11 +76,11 @@ pub clear-at : (k : ℕ) (plan : PlanData) (loads : List TimedLoad) (outside : L
     IsForNoOther plan absent place answerer (burst_sent due [] words) →
     MessageTold k plan loads outside absent before (trace k plan loads outside absent (due + over)) place holder begun m
 clear-at k plan loads outside absent t place holder entry stations shape answerer answering words order n status small settled unheard begins expects only kept
-    stays strikes fit fit_words some apart named are away there present last owed nothing due prompt good passes =
+    stays strikes ranges numbers fit_words some apart named are away there present last owed nothing due prompt good passes =
     let same = (unstruck words fit_words).1 in
     let when : ℕ = t + (40 * length (command_words entry.item.kind) + suc k) + n in
     read-law k plan loads outside absent t place holder entry stations shape answerer answering words order n small settled unheard begins expects kept stays
-    strikes fit fit_words some apart named are away there present last owed nothing due prompt passes
+    strikes (command-fits entry.item.kind ranges numbers) fit_words some apart named are away there present last owed nothing due prompt passes
     (record (without_words Clear (Some status) None) { words = kept_words entry.item.kind (whole_slots words) }) refl
     (λ shown heard. ap (λ ss. controller.first_read k entry.item shown heard (burst_sent when [] words) (read_answer entry.item.kind First ss 0)) same
     ∙ ap (controller.first_read k entry.item shown heard (burst_sent when [] words)) good
@@ -101,7 +103,7 @@ pub ends-at : (k : ℕ) (plan : PlanData) (loads : List TimedLoad) (outside : Li
     Settled k plan loads outside absent before place holder → HeardNothing k holder (starts plan holder) loads outside before.shown →
     BeginsMessage c before.shown entry → (answers_of entry.item.kind).first ≡ Some shape →
     entry.item.abandon ≡ None → NoneTakes k plan loads outside place t (due + over) → IsUnstruck plan.faults attempt →
-    All (λ (word : Word). word.bits < 65536) (command_words entry.item.kind) → All (λ (word : Word). word.bits < 65536) words → 0 < length words →
+    HasKindRanges entry.item.kind → AreWords (words_sent entry.item.kind) → All (λ (word : Word). word.bits < 65536) words → 0 < length words →
     IsNamedApart plan place holder → IsNamedApart plan answerer answering → ArePresent k plan loads outside absent before.shown stations →
     answerer ≢ place → slice_get plan.stations answerer ≡ Some answering → is_present absent answering ≡ true →
     last_order answering.terminal.address burst.slots ≡ Some order →
@@ -114,11 +116,12 @@ pub ends-at : (k : ℕ) (plan : PlanData) (loads : List TimedLoad) (outside : Li
     MessageTold k plan loads outside absent before (trace k plan loads outside absent (due + over)) place holder begun m
 ends-at k plan loads outside absent t place holder entry stations shape answerer answering words order n outcome status small settled unheard begins expects
     kept
-    stays strikes fit fit_words some apart named are away there present last owed nothing due prompt ends once keeps passes =
+    stays strikes ranges numbers fit_words some apart named are away there present last owed nothing due prompt ends once keeps passes =
     let same = (unstruck words fit_words).1 in
     let when : ℕ = t + (40 * length (command_words entry.item.kind) + suc k) + n in
     read-law k plan loads outside absent t place holder entry stations shape answerer answering words order n small settled unheard begins expects kept stays
-    strikes fit fit_words some apart named are away there present last owed nothing due prompt passes (without_words outcome status None) keeps
+    strikes (command-fits entry.item.kind ranges numbers) fit_words some apart named are away there present last owed nothing due prompt passes
+    (without_words outcome status None) keeps
     (λ shown heard. ap (λ ss. controller.first_read k entry.item shown heard (burst_sent when [] words) (read_answer entry.item.kind First ss 0)) same
     ∙ ap (controller.first_read k entry.item shown heard (burst_sent when [] words)) ends
     ∙ at-once k entry.item shown heard (burst_sent when [] words) (is_offer entry.item.kind) outcome status once)

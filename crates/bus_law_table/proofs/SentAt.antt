@@ -1,4 +1,7 @@
 -- A message without an answer, by the number of its ticks.
+use Rattle.bus_formats.specs.Accepted.{AreWords, HasKindRanges, words_sent}
+use Rattle.bus_law_messages.proofs.Spoken.{command-fits}
+use Rattle.bus_law_messages.proofs.WhoAnswers.{all-unanswered}
 use Rattle.std.proofs.Common.{◌≡◌, ℕ, suc, ◌+◌, ◌*◌, ◌<◌, List, [], ◌∷◌, ◌++◌, length, map, Some, None, refl, sym, ap, ◌∙◌, subst, arith, All}
 use Rattle.std.proofs.lemmas.List.{length-map}
 use Rattle.bus_base.specs.declared.samples.Drive.{Drive}
@@ -118,9 +121,12 @@ pub sent-at : (k : ℕ) (plan : PlanData) (loads : List TimedLoad) (outside : Li
     let over : ℕ = 40 * length words + suc k in
     Settled k plan loads outside absent before place holder → HeardNothing k holder (starts plan holder) loads outside before.shown →
     BeginsMessage c before.shown entry → (answers_of entry.item.kind).first ≡ None → NoneTakes k plan loads outside place t (t + over) →
-    IsUnstruck plan.faults attempt → All (λ (word : Word). word.bits < 65536) words → IsNamedApart plan place holder →
+    IsUnstruck plan.faults attempt → HasKindRanges entry.item.kind → AreWords (words_sent entry.item.kind) → IsNamedApart plan place holder →
     ArePresent k plan loads outside absent before.shown stations →
-    IsUnanswered k plan loads outside absent before.shown place begun.state.channel (burst_sent t [] words) →
     MessageTold k plan loads outside absent before (trace k plan loads outside absent (t + over)) place holder begun m
-sent-at k plan loads outside absent t place holder entry stations small settled unheard begins none stays strikes fit apart are unanswered =
-    told k plan loads outside absent t place holder entry stations small settled unheard begins none stays strikes fit apart are unanswered
+sent-at k plan loads outside absent t place holder entry stations small settled unheard begins none stays strikes ranges numbers apart are =
+    told k plan loads outside absent t place holder entry stations small settled unheard begins none stays strikes
+    (command-fits entry.item.kind ranges numbers) apart are
+    (all-unanswered k plan loads outside absent (trace k plan loads outside absent t).shown place
+    (message_begun (course_after k holder (starts plan holder) loads outside (trace k plan loads outside absent t).shown) entry t).state.channel t
+    entry.item.kind ranges numbers none)

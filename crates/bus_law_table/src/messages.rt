@@ -4,6 +4,7 @@ ghost use Rattle.std.specs.Prelude.{◌≡◌, ◌≢◌, ℕ, suc, ◌+◌, ◌
 ghost use Rattle.bus_base.specs.declared.samples.Part.TheVariants.{Command, First};
 ghost use Rattle.bus_words.specs.declared.word.Word.{Word};
 ghost use Rattle.bus_line.specs.Past.{Burst, end_of, rest_of};
+ghost use Rattle.bus_formats.specs.Accepted.{AreWords, HasKindRanges, words_sent};
 ghost use Rattle.bus_formats.specs.Forms.{answers_of, command_words};
 ghost use Rattle.bus_formats.specs.Plans.{StationData, PlanData};
 ghost use Rattle.bus_formats.specs.Readings.{read_answer};
@@ -32,8 +33,8 @@ ghost use Rattle.bus_law_messages.specs.Addressed.{IsForNoOther, whole_slots};
 ghost use Rattle.bus_law_table.specs.Stations.{ArePresent, IsUnstruck, IsNamedApart, HeardNothing};
 ghost use Rattle.bus_law_table.specs.Tells.{MessageTold};
 
-/// A message that expects no answer and that no terminal answers, of an attempt that no fault names, is what the message table says of it: from a
-/// settled moment at which it begins to the tick in which it ends. At every lag below the wait for an answer, for any loads, with any stations absent.
+/// A message that expects no answer, as a broadcast, of an attempt that no fault names, is what the message table says of it: from a settled moment
+/// at which it begins to the tick in which it ends. At every lag below the wait for an answer, for any loads, with any stations absent.
 pub fn a_message_without_answer_is_told()
     ensures { (k : ℕ) (plan : PlanData) (loads : List TimedLoad) (outside : List OutsideTake) (absent : List ℕ) (t place : ℕ) (holder : StationData)
         (entry : Entry) (stations : List Present) → k < 24 → let before : Trace = trace k plan loads outside absent t in
@@ -44,9 +45,9 @@ pub fn a_message_without_answer_is_told()
         let over : ℕ = 40 * length words + suc k in
         Settled k plan loads outside absent before place holder → HeardNothing k holder (starts plan holder) loads outside before.shown →
         BeginsMessage c before.shown entry → (answers_of entry.item.kind).first ≡ None → NoneTakes k plan loads outside place t (t + over) →
-        IsUnstruck plan.faults attempt → All (λ (word : Word). word.bits < 65536) words → IsNamedApart plan place holder →
+        IsUnstruck plan.faults attempt → HasKindRanges entry.item.kind → AreWords (words_sent entry.item.kind) →
+        IsNamedApart plan place holder →
         ArePresent k plan loads outside absent before.shown stations →
-        IsUnanswered k plan loads outside absent before.shown place begun.state.channel (burst_sent t [] words) →
         MessageTold k plan loads outside absent before (trace k plan loads outside absent (t + over)) place holder begun m }
 {}
 
@@ -62,7 +63,8 @@ pub fn a_message_that_nobody_answers_is_told()
         let over : ℕ = 40 * length words + suc k in
         Settled k plan loads outside absent before place holder → HeardNothing k holder (starts plan holder) loads outside before.shown →
         BeginsMessage c before.shown entry → (answers_of entry.item.kind).first ≡ Some shape → NoneTakes k plan loads outside place t (t + over + n) →
-        IsUnstruck plan.faults attempt → All (λ (word : Word). word.bits < 65536) words → IsNamedApart plan place holder →
+        IsUnstruck plan.faults attempt → HasKindRanges entry.item.kind → AreWords (words_sent entry.item.kind) →
+        IsNamedApart plan place holder →
         ArePresent k plan loads outside absent before.shown stations →
         IsUnanswered k plan loads outside absent before.shown place begun.state.channel (burst_sent t [] words) → k + n ≡ no_response →
         MessageTold k plan loads outside absent before (trace k plan loads outside absent (t + over + n)) place holder begun m }
@@ -86,7 +88,7 @@ pub fn a_message_with_a_good_answer_is_told()
         Settled k plan loads outside absent before place holder → HeardNothing k holder (starts plan holder) loads outside before.shown →
         BeginsMessage c before.shown entry → (answers_of entry.item.kind).first ≡ Some shape → (answers_of entry.item.kind).second ≡ None →
         entry.item.abandon ≡ None → NoneTakes k plan loads outside place t (due + over) → IsUnstruck plan.faults attempt →
-        All (λ (word : Word). word.bits < 65536) (command_words entry.item.kind) → All (λ (word : Word). word.bits < 65536) words → 0 < length words →
+        HasKindRanges entry.item.kind → AreWords (words_sent entry.item.kind) → All (λ (word : Word). word.bits < 65536) words → 0 < length words →
         IsNamedApart plan place holder → IsNamedApart plan answerer answering → ArePresent k plan loads outside absent before.shown stations →
         answerer ≢ place → slice_get plan.stations answerer ≡ Some answering → is_present absent answering ≡ true →
         last_order answering.terminal.address burst.slots ≡ Some order →
@@ -114,7 +116,7 @@ pub fn a_message_whose_answer_ends_it_is_told()
         Settled k plan loads outside absent before place holder → HeardNothing k holder (starts plan holder) loads outside before.shown →
         BeginsMessage c before.shown entry → (answers_of entry.item.kind).first ≡ Some shape →
         entry.item.abandon ≡ None → NoneTakes k plan loads outside place t (due + over) → IsUnstruck plan.faults attempt →
-        All (λ (word : Word). word.bits < 65536) (command_words entry.item.kind) → All (λ (word : Word). word.bits < 65536) words → 0 < length words →
+        HasKindRanges entry.item.kind → AreWords (words_sent entry.item.kind) → All (λ (word : Word). word.bits < 65536) words → 0 < length words →
         IsNamedApart plan place holder → IsNamedApart plan answerer answering → ArePresent k plan loads outside absent before.shown stations →
         answerer ≢ place → slice_get plan.stations answerer ≡ Some answering → is_present absent answering ≡ true →
         last_order answering.terminal.address burst.slots ≡ Some order →
