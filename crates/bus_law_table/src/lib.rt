@@ -1,5 +1,9 @@
-//! The world does what the message table says of one message: the fourth of the laws of the world. Laws alone, each the contract of an empty function,
-//! over the world of any plan, from a settled moment of the world to the next.
+//! The world does what the message table says: the fourth of the laws of the world. Laws alone, each the contract of an empty function, over the world of
+//! any plan, for attempts that no fault names. Proved: from a settled moment to the next a message without an answer, one that nobody answers, and one
+//! whose only answer is good or ends it otherwise, ends as the table says, in its tick; every station keeps what the table says, the blocks that it
+//! takes are taken, and the bursts that it shows are shown, and no others; before the first message the table's stations are those of the world, and
+//! over a pause they stay so. The table adds blocks that are put up for sending only where a terminal obeys, so its stations are compared with the
+//! loads of all ticks before. Not proved here: control that passes, relays, abandoned messages, and attempts that a fault names.
 #![tactic(auto)]
 
 pub mod messages;
