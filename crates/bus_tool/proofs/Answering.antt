@@ -1,27 +1,52 @@
--- What the answer to a plan shows, from what its run shows.
-use Rattle.std.proofs.Common.{◌≡◌, ℕ, List, [], map, Option, true, refl, inr}
-use Rattle.std.specs.Io.KnownBytes.{Appends}
-use Rattle.bus_formats.specs.Logs.{LogData}
-use Rattle.bus_report.specs.Report.{report_text}
+-- What the answer to an input shows, from what the run of its plan shows.
+use Rattle.std.proofs.Common.{◌≡◌, ℕ, ◌≤◌, List, length, Option, None, Ok, false, refl, inl, inr, arith}
+use Rattle.std.specs.Prelude.{nat_lt}
+use Rattle.std.proofs.lemmas.Bool.Decides.{nat_tests}
 use Rattle.bus_formats.specs.Plans.{PlanData, without_subsystems}
+use Rattle.bus_formats.specs.declared.log.Delivery.{Delivery}
+use Rattle.bus_plan.specs.PlanOf.{plan_of_bytes}
 use Rattle.bus_run.specs.declared.finished.FinishedBus.{FinishedBus}
-use Rattle.bus_tool.specs.Answers.{AnswersPlan, AnswersRun}
-use Rattle.bus_tool.specs.Texts.{is_built}
+use Rattle.bus_tool.specs.Answers.{Answers, AnswersRun}
+use Rattle.bus_tool.specs.Due.{input_refusal}
+use Rattle.bus_tool.specs.Texts.{plan_run}
 use Rattle.bus_tool.specs.declared.text.Text.{Text}
 use Rattle.bus_tool.specs.declared.text.Text.TheVariants.{Report, Capture}
 
-module _ (held0 held1 : Option (List ℕ)) (sink0 sink1 status : ℕ) (bus : Option FinishedBus) (text : Text) (plan : PlanData) where
-  -- a plan that is built was run for its report
-  pub reports : text ≡ Report → is_built text plan ≡ true → AnswersRun held0 held1 sink0 sink1 status bus Report plan →
-      AnswersPlan held0 held1 sink0 sink1 status bus text plan
-  reports is built ran = rw is record { later = ran.later; answer = inr (rw is at built, ran) }
+-- a text that isn't too long and describes a plan is not refused
+accepted-input : (input : List ℕ) (plan : PlanData) → length input ≤ 4194304 → plan_of_bytes input ≡ Ok plan → input_refusal input ≡ None
+accepted-input input plan short read =
+    let test : nat_lt 4194304 (length input) ≡ false = grind (arith, nat_tests, short) in
+    rw (test, read) refl
+
+module _ (held0 held1 : Option (List ℕ)) (sink0 sink1 status : ℕ) (bus : Option FinishedBus)
+    (told0 told1 : List (Option (List Delivery))) (said0 said1 : List (List ℕ)) (text : Text) (plan : PlanData) where
+  -- a plan was run for its report
+  pub reports : text ≡ Report → AnswersRun held0 held1 sink0 sink1 status bus told0 told1 said0 said1 Report plan →
+      AnswersRun held0 held1 sink0 sink1 status bus told0 told1 said0 said1 text (plan_run text plan)
+  reports is ran = rw is ran
 
   -- a plan was run for its capture, without its subsystems
-  pub captures : (without : PlanData) → text ≡ Capture → without ≡ without_subsystems plan → AnswersRun held0 held1 sink0 sink1 status bus Capture without →
-      AnswersPlan held0 held1 sink0 sink1 status bus text plan
-  captures without is same ran = rw is record { later = ran.later; answer = inr (refl, rw same at ran) }
+  pub captures : (without : PlanData) → text ≡ Capture → without ≡ without_subsystems plan →
+      AnswersRun held0 held1 sink0 sink1 status bus told0 told1 said0 said1 Capture without →
+      AnswersRun held0 held1 sink0 sink1 status bus told0 told1 said0 said1 text (plan_run text plan)
+  captures without is same ran = rw is (rw same at ran)
 
--- the report of a log where no subsystem says anything
-pub same-report : {X : Type 0} (said : X → List ℕ) (items : List X) (log found : LogData) (plan : PlanData) (held0 held1 : Option (List ℕ)) →
-    items ≡ [] → log ≡ found → Appends held0 held1 (report_text log plan (map said items)) → Appends held0 held1 (report_text found plan [])
-same-report said items log found plan held0 held1 none same bytes = rw same at (rw none at bytes)
+  -- the plan of an input was run
+  pub answers-input : (input : List ℕ) → length input ≤ 4194304 → plan_of_bytes input ≡ Ok plan →
+      AnswersRun held0 held1 sink0 sink1 status bus told0 told1 said0 said1 text (plan_run text plan) →
+      Answers held0 held1 sink0 sink1 status bus told0 told1 said0 said1 text input
+  answers-input input short read answers = record {
+    later = answers.later;
+    answer = elim answers.answer [
+      | inl run ↦ inl record {
+        accepted = accepted-input input plan short read;
+        plan = plan;
+        read = read;
+        ticks = run.0;
+        ends = run.1;
+        objects = run.2;
+        wrote = run.3;
+      }
+      | inr wanting ↦ inr (inr wanting)
+    ];
+  }

@@ -1,5 +1,6 @@
 -- A run comes to an end, and its capture is written up to there.
-use Rattle.std.proofs.Common.{◌≡◌, ℕ, zero, suc, ◌+◌, ◌-◌, ◌<◌, ◌≤◌, Bool, true, false, ◌||◌, List, [], ◌∷◌, ◌++◌, reverse, refl, sym, ◌∙◌, ap, subst, arith, append_assoc, append-nil, Option, Some, None, Result, Ok, Err, inl, inr}
+use Rattle.std.proofs.Common.{◌≡◌, ℕ, zero, suc, ◌+◌, ◌<◌, ◌≤◌, Bool, true, false, List, [], ◌∷◌, ◌++◌, reverse, map, refl, sym, ◌∙◌, ap}
+use Rattle.std.proofs.Common.{subst, arith, append_assoc, append-nil, Option, Some, None, Result, Ok, Err, inl, inr}
 use Rattle.std.specs.Prelude.{nat_le, IsErr}
 use Rattle.std.proofs.lemmas.Option.{same_Some}
 use Rattle.std.proofs.lemmas.Bool.{cases_lt}
@@ -9,20 +10,22 @@ use Rattle.std.specs.Io.KnownBytes.{Appends}
 use Rattle.bus_base.specs.declared.samples.Pair.{Pair}
 use Rattle.bus_capture.specs.Captures.{ticks_text, header, capture_text}
 use Rattle.bus_formats.specs.Plans.{PlanData}
+use Rattle.bus_formats.specs.declared.log.Delivery.{Delivery}
 use Rattle.bus_line.specs.declared.cutter.TheConstants.{LAG}
-use Rattle.bus_model.specs.World.{world, trace, ticks_on, run_is_over}
-use Rattle.bus_outside.specs.Causes.{GrowsByFront, WriteAdds}
+use Rattle.bus_model.specs.World.{world, ticks_on}
+use Rattle.bus_outside.specs.Causes.{GrowsByFront}
 use Rattle.bus_outside.specs.declared.streams.Failed.{Failed}
 use Rattle.bus_outside.proofs.Writes.{appends_then, front_then}
 use Rattle.bus_run.specs.Amounts.{most_ticks}
-use Rattle.bus_run.specs.Ends.{has_ended, is_outgrown}
+use Rattle.bus_run.specs.Deliveries.{Serves}
+use Rattle.bus_run.specs.Ends.{has_ended}
 use Rattle.bus_run.specs.Stands.{BusStands, EndsAfter, FinishedStands, shown_in}
 use Rattle.bus_run.specs.declared.bus.Bus.{Bus}
 use Rattle.bus_run.specs.declared.finished.FinishedBus.{FinishedBus}
 use Rattle.bus_tool.specs.Captured.{Captured, Captures}
-use Rattle.bus_tool.specs.Scribes.{begun_of, Stands, ScribeStands, TookTick}
-use Rattle.bus_tool.specs.declared.scribe.Scribe.{Scribe}
-use Rattle.bus_tool.proofs.Scribing.{whole-text}
+use Rattle.bus_tool.specs.CaptureWriters.{begun_of, CaptureWriterStands, TookTick}
+use Rattle.bus_tool.specs.declared.capture_writer.CaptureWriter.{CaptureWriter}
+use Rattle.bus_tool.proofs.WrittenLines.{whole-text}
 
 -- ---- the run
 
@@ -73,17 +76,17 @@ older plan t (suc n) =
     (shown_in plan (t + n) ∷ newer, rw same (ap (λ l. shown_in plan (t + n) ∷ l) is))
 
 -- what was written so far is a front of the capture of the whole run
-pub front-of : (plan : PlanData) (t m : ℕ) (scribe : Scribe) (text : List ℕ) → ScribeStands scribe (world LAG plan [] [] [] t) text →
+pub front-of : (plan : PlanData) (t m : ℕ) (writer : CaptureWriter) (text : List ℕ) → CaptureWriterStands writer (world LAG plan [] [] [] t) text →
     (rest : List ℕ) × (capture_text (world LAG plan [] [] [] (t + m)) ≡ (header ++ text) ++ rest)
-unfolding ScribeStands capture_text
-front-of plan t m scribe text st =
+unfolding CaptureWriterStands capture_text
+front-of plan t m writer text st =
     let (newer, is) = older plan t m in
-    let turned : reverse (world LAG plan [] [] [] (t + m)) ≡ (st.lines ++ begun_of scribe) ++ reverse newer =
+    let turned : reverse (world LAG plan [] [] [] (t + m)) ≡ (st.lines ++ begun_of writer) ++ reverse newer =
     ap reverse is ∙ reverse-append newer (world LAG plan [] [] [] t) ∙ ap (λ l. l ++ reverse newer) st.ticks in
-    let rest = ticks_text 0 (begun_of scribe ++ reverse newer) in (
+    let rest = ticks_text 0 (begun_of writer ++ reverse newer) in (
       rest,
-      ap (λ l. header ++ ticks_text 0 l) (turned ∙ append_assoc st.lines (begun_of scribe) (reverse newer))
-          ∙ ap (λ l. header ++ l) (st.written (begun_of scribe ++ reverse newer)) ∙ sym (append_assoc header text rest),
+      ap (λ l. header ++ ticks_text 0 l) (turned ∙ append_assoc st.lines (begun_of writer) (reverse newer))
+          ∙ ap (λ l. header ++ l) (st.written (begun_of writer ++ reverse newer)) ∙ sym (append_assoc header text rest),
     )
 
 failed : (P : Result FinishedBus Failed → Type 0) (r : Result FinishedBus Failed) → IsErr r → ((e : Failed) → P (Err e)) → P r
@@ -96,12 +99,13 @@ keeps None = tt
 keeps (Some bytes) = sym (append-nil bytes)
 
 -- a write of the next tick failed
-pub fails-taking : {T : Type 0} (plan : PlanData) (held0 held1 held2 : Option (List ℕ)) (bus : Bus) (scribe scribe' : Scribe) (e : Failed) (r : Result FinishedBus Failed)
-    (so : Captures plan held0 held1 bus scribe) → IsErr r → has_ended plan so.ticks ≡ false →
-    TookTick {T = T} {E = Failed} held1 held2 (Err e) scribe' (world LAG plan [] [] [] (suc so.ticks)) so.text → Captured plan held0 held2 r
-fails-taking plan held0 held1 held2 bus scribe scribe' e r so is on took =
-    let (m, ends) = some-end plan (most_ticks plan) (suc so.ticks) (omega arith) (more-before plan so.ticks so.before on) in
-    let (rest, seen) = front-of plan (suc so.ticks) m scribe' (so.text ++ took.piece) took.stands in
+pub fails-taking : {T : Type 0} (plan : PlanData) (held0 held1 held2 : Option (List ℕ)) (bus : Bus) (writer writer' : CaptureWriter)
+    (before told : List (Option (List Delivery))) (spare : List ℕ) (e : Failed) (r : Result FinishedBus Failed)
+    (so : Captures plan held0 held1 bus writer before told spare) → IsErr r → has_ended plan so.ticks ≡ false →
+    TookTick {T = T} {E = Failed} held1 held2 (Err e) writer' (world LAG plan [] [] [] (suc so.ticks)) so.text → Captured plan held0 held2 r
+fails-taking plan held0 held1 held2 bus writer writer' before told spare e r so is on took =
+    let (m, ends) = some-end plan (most_ticks plan) (suc so.ticks) (omega arith) (more-before plan so.ticks so.goes_on on) in
+    let (rest, seen) = front-of plan (suc so.ticks) m writer' (so.text ++ took.piece) took.stands in
     let whole : capture_text (world LAG plan [] [] [] (suc so.ticks + m)) ≡ (header ++ so.text) ++ (took.piece ++ rest) =
     seen ∙ ap (λ l. l ++ rest) (sym (append_assoc header so.text took.piece)) ∙ append_assoc (header ++ so.text) took.piece rest in
     failed (Captured plan held0 held2) r is (λ _. record {
@@ -123,66 +127,83 @@ fails-beginning plan held0 held1 r is front =
     })
 
 -- a write of the last line failed
-pub fails-ending : (plan : PlanData) (held0 held1 held2 : Option (List ℕ)) (bus : Bus) (scribe : Scribe) (r : Result FinishedBus Failed)
-    (so : Captures plan held0 held1 bus scribe) → IsErr r → has_ended plan so.ticks ≡ true → GrowsByFront held1 held2 (ticks_text 0 (begun_of scribe)) →
+pub fails-ending : (plan : PlanData) (held0 held1 held2 : Option (List ℕ)) (bus : Bus) (writer : CaptureWriter)
+    (before told : List (Option (List Delivery))) (spare : List ℕ) (r : Result FinishedBus Failed)
+    (so : Captures plan held0 held1 bus writer before told spare) → IsErr r → has_ended plan so.ticks ≡ true →
+    GrowsByFront held1 held2 (ticks_text 0 (begun_of writer)) →
     Captured plan held0 held2 r
-fails-ending plan held0 held1 held2 bus scribe r so is here front =
-    let text = ticks_text 0 (begun_of scribe) in
+fails-ending plan held0 held1 held2 bus writer before told spare r so is here front =
+    let text = ticks_text 0 (begun_of writer) in
     let whole : capture_text (world LAG plan [] [] [] so.ticks) ≡ (header ++ so.text) ++ (text ++ []) =
-    whole-text scribe (world LAG plan [] [] [] so.ticks) so.text so.lines ∙ ap (λ l. (header ++ so.text) ++ l) (sym (append-nil text)) in
+    whole-text writer (world LAG plan [] [] [] so.ticks) so.text so.lines ∙ ap (λ l. (header ++ so.text) ++ l) (sym (append-nil text)) in
     failed (Captured plan held0 held2) r is (λ _. record {
       ticks = so.ticks;
-      ends = record { later = omega arith; before = so.before; ended = here };
+      ends = record { later = omega arith; before = so.goes_on; ended = here };
       wrote = rw whole (front_then held0 held1 held2 (header ++ so.text) text [] so.written front);
     })
 
 -- all was written
-pub ends-whole : (plan : PlanData) (held0 held1 held2 : Option (List ℕ)) (bus : Bus) (scribe : Scribe) (left : FinishedBus)
-    (so : Captures plan held0 held1 bus scribe) → has_ended plan so.ticks ≡ true → Appends held1 held2 (ticks_text 0 (begun_of scribe)) →
-    ((u : ℕ) × EndsAfter plan so.ticks u × FinishedStands plan u left) → Captured {E = Failed} plan held0 held2 (Ok left)
-ends-whole plan held0 held1 held2 bus scribe left so here added finished =
-    let text = ticks_text 0 (begun_of scribe) in
+pub ends-whole : (plan : PlanData) (held0 held1 held2 : Option (List ℕ)) (bus : Bus) (writer : CaptureWriter)
+    (before told : List (Option (List Delivery))) (spare : List ℕ) (left : FinishedBus)
+    (so : Captures plan held0 held1 bus writer before told spare) → has_ended plan so.ticks ≡ true → Appends held1 held2 (ticks_text 0 (begun_of writer)) →
+    (u : ℕ) → EndsAfter plan so.ticks u → FinishedStands plan u left → Captured {E = Failed} plan held0 held2 (Ok left)
+ends-whole plan held0 held1 held2 bus writer before told spare left so here added u ends finished =
+    let text = ticks_text 0 (begun_of writer) in
     let whole : capture_text (world LAG plan [] [] [] so.ticks) ≡ (header ++ so.text) ++ text =
-    whole-text scribe (world LAG plan [] [] [] so.ticks) so.text so.lines in
-    let same : finished.0 ≡ so.ticks = one-end plan so.ticks finished.0 finished.1 here in
+    whole-text writer (world LAG plan [] [] [] so.ticks) so.text so.lines in
+    let same : u ≡ so.ticks = one-end plan so.ticks u ends here in
     record {
       ticks = so.ticks;
-      ends = record { later = omega arith; before = so.before; ended = here };
-      wrote = (rw same at finished.2, rw whole (appends_then held0 held1 held2 (header ++ so.text) text so.written added));
+      ends = record { later = omega arith; before = so.goes_on; ended = here };
+      wrote = (rw same at finished, rw whole (appends_then held0 held1 held2 (header ++ so.text) text so.written added));
     }
 
 -- the header was written, and no tick ran
-pub begins-capture : (plan : PlanData) (held0 held1 : Option (List ℕ)) (bus : Bus) (scribe : Scribe) → BusStands plan 0 bus → ScribeStands scribe [] [] →
-    Appends held0 held1 header → Captures plan held0 held1 bus scribe
+pub begins-capture : (plan : PlanData) (held0 held1 : Option (List ℕ)) (bus : Bus) (writer : CaptureWriter)
+    (before told : List (Option (List Delivery))) (spare : List ℕ) → BusStands plan 0 bus → Serves plan before [] told spare →
+    CaptureWriterStands writer [] [] →
+    Appends held0 held1 header → Captures plan held0 held1 bus writer before told spare
 unfolding ticks_on
-begins-capture plan held0 held1 bus scribe stands lines written = record {
+begins-capture plan held0 held1 bus writer before told spare stands serves lines written = record {
   ticks = 0;
   stands = stands;
-  before = λ i least within. absurd (omega (arith, within));
+  serves = serves;
+  goes_on = λ i least within. absurd (omega (arith, within));
   text = [];
   lines = lines;
   written = subst (λ l. Appends held0 held1 l) (sym (append-nil header)) written;
 }
 
 -- a tick was written
-pub goes-on-capture : {T : Type 0} (plan : PlanData) (held0 held1 held2 : Option (List ℕ)) (bus bus' : Bus) (scribe scribe' : Scribe) (done : T)
-    (so : Captures plan held0 held1 bus scribe) → has_ended plan so.ticks ≡ false → BusStands plan (suc so.ticks) bus' →
-    TookTick {T = T} {E = Failed} held1 held2 (Ok done) scribe' (world LAG plan [] [] [] (suc so.ticks)) so.text → Captures plan held0 held2 bus' scribe'
-goes-on-capture plan held0 held1 held2 bus bus' scribe scribe' done so on stands took = record {
+pub goes-on-capture : {T : Type 0} (plan : PlanData) (held0 held1 held2 : Option (List ℕ)) (bus bus' : Bus) (writer writer' : CaptureWriter)
+    (before told told' : List (Option (List Delivery))) (spare spare' : List ℕ) (done : T)
+    (so : Captures plan held0 held1 bus writer before told spare) → has_ended plan so.ticks ≡ false → BusStands plan (suc so.ticks) bus' →
+    Serves plan before (world LAG plan [] [] [] (suc so.ticks)) told' spare' →
+    TookTick {T = T} {E = Failed} held1 held2 (Ok done) writer' (world LAG plan [] [] [] (suc so.ticks)) so.text →
+    Captures plan held0 held2 bus' writer' before told' spare'
+goes-on-capture plan held0 held1 held2 bus bus' writer writer' before told told' spare spare' done so on stands serves took = record {
   ticks = suc so.ticks;
   stands = stands;
-  before = more-before plan so.ticks so.before on;
+  serves = serves;
+  goes_on = more-before plan so.ticks so.goes_on on;
   text = so.text ++ took.piece;
   lines = took.stands;
   written = subst (λ l. Appends held0 held2 l) (append_assoc header so.text took.piece)
       (appends_then held0 held1 held2 (header ++ so.text) took.piece so.written took.wrote);
 }
 
+-- the objects of a run that has ended stay
+pub serves-still : {X : Type 0} (tells : X → Option (List Delivery)) (room : X → ℕ) (plan : PlanData) (before : List (Option (List Delivery)))
+    (past : List Pair) (objects objects' : List X) → objects' ≡ objects → Serves plan before past (map tells objects) (map room objects) →
+    Serves plan before past (map tells objects') (map room objects')
+serves-still tells room plan before past objects objects' same serves = rw same serves
+
 -- ---- one turn
 
 -- a tick that was answered is the next one of the run
-pub tick-ran : (plan : PlanData) (t : ℕ) (bus bus' : Bus) (result : Option Pair) (shown : Pair) → result ≡ Some shown →
-    (has_ended plan t ≡ true → (result ≡ None) × (bus' ≡ bus)) → (has_ended plan t ≡ false → (result ≡ Some (shown_in plan t)) × BusStands plan (suc t) bus') →
+pub tick-ran : {Rest : Type 0} (plan : PlanData) (t : ℕ) (bus bus' : Bus) (result : Option Pair) (shown : Pair) → result ≡ Some shown →
+    (has_ended plan t ≡ true → (result ≡ None) × (bus' ≡ bus) × Rest) →
+    (has_ended plan t ≡ false → (result ≡ Some (shown_in plan t)) × BusStands plan (suc t) bus') →
     (has_ended plan t ≡ false) × (shown ≡ shown_in plan t) × BusStands plan (suc t) bus'
 tick-ran plan t bus bus' result shown is ended runs = go (has_ended plan t) refl
   where
@@ -191,18 +212,20 @@ tick-ran plan t bus bus' result shown is ended runs = go (has_ended plan t) refl
     go false on = (on, same_Some shown (shown_in plan t) (sym is ∙ (runs on).0), (runs on).1)
 
 -- and where none was, the run has ended
-pub tick-ended : (plan : PlanData) (t : ℕ) (bus bus' : Bus) (result : Option Pair) → result ≡ None →
-    (has_ended plan t ≡ true → (result ≡ None) × (bus' ≡ bus)) → (has_ended plan t ≡ false → (result ≡ Some (shown_in plan t)) × BusStands plan (suc t) bus') →
-    (has_ended plan t ≡ true) × (bus' ≡ bus)
-tick-ended plan t bus bus' result is ended runs = go (has_ended plan t) refl
+pub tick-ended : {Rest : Type 0} (plan : PlanData) (t : ℕ) (bus bus' : Bus) (result : Option Pair) → result ≡ None →
+    (has_ended plan t ≡ true → (result ≡ None) × (bus' ≡ bus) × Rest) →
+    (has_ended plan t ≡ false → (result ≡ Some (shown_in plan t)) × BusStands plan (suc t) bus') →
+    (has_ended plan t ≡ true) × (bus' ≡ bus) × Rest
+tick-ended {Rest = Rest} plan t bus bus' result is ended runs = go (has_ended plan t) refl
   where
-    go : (test : Bool) → has_ended plan t ≡ test → (has_ended plan t ≡ true) × (bus' ≡ bus)
-    go true here = (here, (ended here).1)
+    go : (test : Bool) → has_ended plan t ≡ test → (has_ended plan t ≡ true) × (bus' ≡ bus) × Rest
+    go true here = (here, (ended here).1, (ended here).2)
     go false on = (let no : Some (shown_in plan t) ≡ None = sym (runs on).0 ∙ is in cc)
 
--- a scribe that took a tick shown in this plan's world stands for one tick more
-pub took-next : {T E : Type 0} (plan : PlanData) (t : ℕ) (held0 held1 : Option (List ℕ)) (result : Result T E) (scribe : Scribe) (shown : Pair) (text : List ℕ) →
-    shown ≡ shown_in plan t → TookTick held0 held1 result scribe (shown ∷ world LAG plan [] [] [] t) text →
-    TookTick held0 held1 result scribe (world LAG plan [] [] [] (suc t)) text
+-- a writer that took a tick shown in this plan's world stands for one tick more
+pub took-next : {T E : Type 0} (plan : PlanData) (t : ℕ) (held0 held1 : Option (List ℕ)) (result : Result T E) (writer : CaptureWriter) (shown : Pair)
+    (text : List ℕ) →
+    shown ≡ shown_in plan t → TookTick held0 held1 result writer (shown ∷ world LAG plan [] [] [] t) text →
+    TookTick held0 held1 result writer (world LAG plan [] [] [] (suc t)) text
 unfolding ticks_on
-took-next plan t held0 held1 result scribe shown text is took = rw is at took
+took-next plan t held0 held1 result writer shown text is took = rw is at took

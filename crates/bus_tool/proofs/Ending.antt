@@ -1,18 +1,19 @@
 -- What each answer shows, from what its parts show.
-use Rattle.std.proofs.Common.{◌≡◌, ℕ, zero, suc, ◌+◌, ◌-◌, ◌≤◌, ◌<◌, List, [], ◌++◌, length, take, Option, Some, None, refl, inl, inr, arith, sym, ◌∙◌, ap, append-nil, subst}
+use Rattle.std.proofs.Common.{◌≡◌, ℕ, zero, suc, ◌≤◌, List, [], ◌++◌, length, take, Option, Some, None, refl, inl, inr, arith, sym}
+use Rattle.std.proofs.Common.{◌∙◌, ap, append-nil, subst}
 use Rattle.std.specs.Prelude.{Bool, true, false, ◌⊎◌, if◌then◌else◌}
 use Rattle.std.proofs.lemmas.List.{take_all, take-append-le}
 use Rattle.std.proofs.lemmas.Bool.{cases_lt}
-use Rattle.std.specs.Io.KnownBytes.{Consumes, IsAtEnd, Appends}
-use Rattle.bus_outside.specs.Causes.{Rose, GrowsByFront}
+use Rattle.bus_outside.specs.Causes.{Rose}
 use Rattle.bus_formats.specs.Logs.{LogData}
+use Rattle.bus_formats.specs.declared.log.Delivery.{Delivery}
 use Rattle.bus_line.specs.declared.cutter.TheConstants.{LAG}
 use Rattle.bus_model.specs.Log.{all_went_well}
 use Rattle.bus_model.specs.WorldLog.{world_log}
 use Rattle.bus_run.specs.declared.finished.FinishedBus.{FinishedBus}
 use Rattle.bus_tool.specs.Answers.{Answers}
 use Rattle.bus_tool.specs.Due.{input_refusal}
-use Rattle.bus_tool.specs.Ends.{ReadsInput, Ran, WasRefused, Stopped, IsFine, EndsRun}
+use Rattle.bus_tool.specs.Ends.{ReadsInput, Ran, WasRefused, Stopped, DidNothing, IsFine, EndsRun}
 use Rattle.bus_tool.specs.Texts.{plan_run, text_of, status_of}
 use Rattle.bus_tool.specs.declared.text.Text.{Text}
 
@@ -48,10 +49,12 @@ status-few log = go (all_went_well log)
     go true = omega arith
     go false = omega arith
 
-module _ (left0 left1 held0 held1 : Option (List ℕ)) (source0 source1 sink0 sink1 : ℕ) (text : Text)
+module _ (left0 left1 held0 held1 : Option (List ℕ)) (source0 source1 sink0 sink1 : ℕ)
+    (told0 told1 : List (Option (List Delivery))) (said0 said1 : List (List ℕ)) (text : Text)
     (later_source : source0 ≤ source1) (later_sink : sink0 ≤ sink1) where
-  ran_ends : (status : ℕ) (bus : Option FinishedBus) → status ≤ 1 → Ran left0 left1 held0 held1 source0 source1 sink0 sink1 status bus text →
-      EndsRun left0 left1 held0 held1 source0 source1 sink0 sink1 status bus text
+  ran_ends : (status : ℕ) (bus : Option FinishedBus) → status ≤ 1 →
+      Ran left0 left1 held0 held1 source0 source1 sink0 sink1 status bus told0 told1 said0 said1 text →
+      EndsRun left0 left1 held0 held1 source0 source1 sink0 sink1 status bus told0 told1 said0 said1 text
   ran_ends status bus few ran = record {
     range = omega (arith, few);
     later_source = later_source;
@@ -66,8 +69,8 @@ module _ (left0 left1 held0 held1 : Option (List ℕ)) (source0 source1 sink0 si
     complete = λ _. zero-or-one status few;
   }
 
-  refused_ends : WasRefused left0 left1 held0 held1 source0 source1 sink0 sink1 3 None text →
-      EndsRun left0 left1 held0 held1 source0 source1 sink0 sink1 3 None text
+  refused_ends : WasRefused left0 left1 held0 held1 source0 source1 sink0 sink1 3 None told0 told1 said0 said1 →
+      EndsRun left0 left1 held0 held1 source0 source1 sink0 sink1 3 None told0 told1 said0 said1 text
   refused_ends refused = record {
     range = omega arith;
     later_source = later_source;
@@ -82,15 +85,15 @@ module _ (left0 left1 held0 held1 : Option (List ℕ)) (source0 source1 sink0 si
     complete = λ fine. absurd (not_fine fine);
   }
     where
-      not_fine : IsFine left0 left1 held0 held1 source0 source1 sink0 sink1 3 None text → ⊥
+      not_fine : IsFine left0 left1 held0 held1 source0 source1 sink0 sink1 3 None told0 told1 said0 said1 → ⊥
       not_fine fine =
           let read : ReadsInput (Some fine.told) left1 refused.input = subst (λ l. ReadsInput l left1 refused.input) fine.left refused.read in
           let is : refused.input ≡ take 4194305 fine.told = told_input fine.told refused.input left1 read in
-          let none : input_refusal text refused.input ≡ None = ap (input_refusal text) is ∙ fine.accepted in
-          one_refusal (input_refusal text refused.input) refused.line refused.due none
+          let none : input_refusal refused.input ≡ None = ap input_refusal is ∙ fine.accepted in
+          one_refusal (input_refusal refused.input) refused.line refused.due none
 
-  stopped_ends : Rose sink0 sink1 → Stopped left0 left1 held0 held1 source0 source1 sink0 sink1 5 None text →
-      EndsRun left0 left1 held0 held1 source0 source1 sink0 sink1 5 None text
+  stopped_ends : Rose sink0 sink1 → Stopped left0 left1 held0 held1 source0 source1 sink0 sink1 5 None told0 told1 said0 said1 text →
+      EndsRun left0 left1 held0 held1 source0 source1 sink0 sink1 5 None told0 told1 said0 said1 text
   stopped_ends rose stopped = record {
     range = omega arith;
     later_source = later_source;
@@ -105,7 +108,8 @@ module _ (left0 left1 held0 held1 : Option (List ℕ)) (source0 source1 sink0 si
     complete = λ fine. absurd (fine.sink rose);
   }
 
-  memory_ends : held1 ≡ held0 → EndsRun left0 left1 held0 held1 source0 source1 sink0 sink1 6 None text
+  memory_ends : DidNothing left0 left1 held0 held1 source0 source1 sink0 sink1 6 None told0 told1 said0 said1 →
+      EndsRun left0 left1 held0 held1 source0 source1 sink0 sink1 6 None told0 told1 said0 said1 text
   memory_ends same = record {
     range = omega arith;
     later_source = later_source;
@@ -122,7 +126,8 @@ module _ (left0 left1 held0 held1 : Option (List ℕ)) (source0 source1 sink0 si
 
   -- what the answer to an input that was read shows
   pub answered : (input : List ℕ) (status : ℕ) (bus : Option FinishedBus) → ReadsInput left0 left1 input →
-      Answers held0 held1 sink0 sink1 status bus text input → EndsRun left0 left1 held0 held1 source0 source1 sink0 sink1 status bus text
+      Answers held0 held1 sink0 sink1 status bus told0 told1 said0 said1 text input →
+      EndsRun left0 left1 held0 held1 source0 source1 sink0 sink1 status bus told0 told1 said0 said1 text
   answered input status bus read answers = elim answers.answer [
     | inl ran ↦ elim ran.wrote [
       | inl done ↦
@@ -138,23 +143,28 @@ module _ (left0 left1 held0 held1 : Option (List ℕ)) (source0 source1 sink0 si
             left = done.left;
             has = done.has;
             stands = done.stands;
+            objects = ran.objects;
             status_is = done.status_is;
             written = done.written;
           }
       | inr failed ↦ rw (failed.status_is, failed.no_bus) (stopped_ends failed.failed record {
         input = input;
         read = read;
-        bytes = text_of text (plan_run text ran.plan) ran.ticks;
-        due = inr (ran.accepted, record { plan = ran.plan; read = ran.read; ticks = ran.ticks; ends = ran.ends; bytes_are = refl });
+        bytes = text_of text (plan_run text ran.plan) ran.ticks said1;
+        due = inr (
+          ran.accepted,
+          record { plan = ran.plan; read = ran.read; ticks = ran.ticks; ends = ran.ends; objects = ran.objects; bytes_are = refl },
+        );
         front = failed.front;
       })
     ]
     | inr other ↦ elim other [
-      | inl refused ↦ elim refused.2.wrote [
-        | inl done ↦ rw (done.0, refused.2.no_bus) (refused_ends record { input = input; read = read; line = refused.0; due = refused.1; written = done.1 })
-        | inr failed ↦ rw (failed.0, refused.2.no_bus) (stopped_ends failed.1
-            record { input = input; read = read; bytes = refused.0; due = inl refused.1; front = failed.2 })
+      | inl refused ↦ elim refused.answer.wrote [
+        | inl done ↦ rw (done.0, refused.answer.no_bus) (refused_ends
+            record { input = input; read = read; line = refused.line; due = refused.due; written = done.1; objects = refused.objects })
+        | inr failed ↦ rw (failed.0, refused.answer.no_bus) (stopped_ends failed.1
+            record { input = input; read = read; bytes = refused.line; due = inl (refused.due, refused.objects); front = failed.2 })
       ]
-      | inr wanting ↦ rw (wanting.0, wanting.1) (memory_ends wanting.2)
+      | inr wanting ↦ rw (wanting.status_is, wanting.no_bus) (memory_ends record { unwritten = wanting.unwritten; objects = wanting.objects })
     ]
   ]

@@ -2,5 +2,6 @@ pub mod Answering
 pub mod Capturing
 pub mod Ending
 pub mod Ranges
-pub mod Scribing
+pub mod Serving
+pub mod WrittenLines
 pub mod Without

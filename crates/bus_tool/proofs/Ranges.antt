@@ -1,6 +1,6 @@
 -- The numbers of every message in the log of an accepted plan's world are in their ranges.
-use Rattle.std.proofs.Common.{◌≡◌, ℕ, zero, suc, ◌+◌, ◌<◌, List, [], ◌∷◌, ◌++◌, length, get_or, refl, sym, arith}
-use Rattle.std.specs.Prelude.{Bool, true, false, All, IfSome, Option, Some, None, slice_get, flat_map, filter, map, if◌then◌else◌, ◌==◌}
+use Rattle.std.proofs.Common.{◌≡◌, ℕ, zero, suc, ◌+◌, ◌<◌, List, [], ◌∷◌, length, get_or}
+use Rattle.std.specs.Prelude.{Bool, true, false, All, IfSome, Option, Some, None, slice_get, flat_map, if◌then◌else◌, ◌==◌}
 use Rattle.std.proofs.lemmas.List.Elements.{All-nil, All-cons, All-head, All-tail, All-append, All-drop, All-filter, All-get_or}
 use Rattle.std.proofs.lemmas.Option.{slice_get_within, get_or_from_slice_get}
 use Rattle.bus_base.specs.declared.samples.Pair.{Pair}
@@ -14,7 +14,8 @@ use Rattle.bus_retry.specs.Retries.{next_of}
 use Rattle.bus_model.specs.Attempts.{Begun, Ended}
 use Rattle.bus_model.specs.Controller.{ending_now}
 use Rattle.bus_model.specs.Starts.{Entry, entries_in, entries_from, repeated, agenda, left_after, starts, start_of}
-use Rattle.bus_model.specs.Course.{Course, Take, quiet_from, begin_entry, run_by, runs_next, close, close_or_run, run_on, take_control, with_takes, at_first, course}
+use Rattle.bus_model.specs.Course.{Course, Take, quiet_from, begin_entry, run_by, runs_next, close_or_run, run_on, take_control, with_takes}
+use Rattle.bus_model.specs.Course.{at_first, course}
 use Rattle.bus_model.specs.World.{is_present, world}
 use Rattle.bus_model.specs.WorldLog.{attempts, attempt_at, course_of, ended_by, present_stations, world_log}
 
@@ -143,7 +144,8 @@ module _ (plan : PlanData) where
   unfolding attempts
   attempts-fit [] ranges = All-nil AttemptFits
   attempts-fit (shown ∷ past) ranges =
-      All-append AttemptFits (attempts LAG plan [] [] [] past) (flat_map (ended_by LAG plan [] [] [] (shown ∷ past) (length past)) (present_stations LAG plan [] [] []))
+      All-append AttemptFits (attempts LAG plan [] [] [] past)
+      (flat_map (ended_by LAG plan [] [] [] (shown ∷ past) (length past)) (present_stations LAG plan [] [] []))
       (attempts-fit past ranges)
       (all-by (shown ∷ past) (length past) (present_stations LAG plan [] [] [])
       (All-filter (is_present []) HasStationRanges plan.stations ranges))

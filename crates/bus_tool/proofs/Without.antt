@@ -5,8 +5,9 @@ use Rattle.std.proofs.lemmas.List.{length-map}
 use Rattle.std.proofs.lemmas.List.Elements.{All-map}
 use Rattle.std.proofs.lemmas.List.Folds.{fold-map}
 use mathlib.Core.List.{map-map}
-use Rattle.bus_formats.specs.Accepted.{HasStationRanges, HasTerminalRanges, IsAccepted, IsController, IsFrameSendable, IsSendable, IsWithinLimits, addresses, addresses_named, items_in, ticks_in}
-use Rattle.bus_formats.specs.Plans.{FrameData, ItemData, StationData, PlanData, without_subsystem, without_subsystems}
+use Rattle.bus_formats.specs.Accepted.{HasStationRanges, IsAccepted, IsController, IsFrameSendable, IsSendable, IsWithinLimits}
+use Rattle.bus_formats.specs.Accepted.{addresses, addresses_named, items_in, ticks_in}
+use Rattle.bus_formats.specs.Plans.{FrameData, StationData, PlanData, without_subsystem, without_subsystems}
 use Rattle.bus_formats.specs.declared.plan.Kind.{Kind}
 
 same-addresses : (plan : PlanData) → addresses (without_subsystems plan) ≡ addresses plan

@@ -3,15 +3,17 @@ use Rattle.std.specs.Prelude.{◌≡◌, ℕ, ◌≤◌, ◌<◌, false, List, [
 use Rattle.std.specs.Io.KnownBytes.{Appends}
 use Rattle.bus_capture.specs.Captures.{header, capture_text}
 use Rattle.bus_formats.specs.Plans.{PlanData}
+use Rattle.bus_formats.specs.declared.log.Delivery.{Delivery}
 use Rattle.bus_line.specs.declared.cutter.TheConstants.{LAG}
 use Rattle.bus_model.specs.World.{world}
 use Rattle.bus_outside.specs.Causes.{GrowsByFront}
+use Rattle.bus_run.specs.Deliveries.{Serves}
 use Rattle.bus_run.specs.Ends.{has_ended}
 use Rattle.bus_run.specs.Stands.{BusStands, EndsAfter, FinishedStands}
 use Rattle.bus_run.specs.declared.bus.Bus.{Bus}
 use Rattle.bus_run.specs.declared.finished.FinishedBus.{FinishedBus}
-use Rattle.bus_tool.specs.Scribes.{ScribeStands}
-use Rattle.bus_tool.specs.declared.scribe.Scribe.{Scribe}
+use Rattle.bus_tool.specs.CaptureWriters.{CaptureWriterStands}
+use Rattle.bus_tool.specs.declared.capture_writer.CaptureWriter.{CaptureWriter}
 
 -- the run ends after so many ticks; its capture was written whole, and this bus is left, or a front of it was written
 pub record Captured {E : Type 0} (plan : PlanData) (held0 held1 : Option (List ℕ)) (result : Result FinishedBus E) : Type 0 where
@@ -21,11 +23,13 @@ pub record Captured {E : Type 0} (plan : PlanData) (held0 held1 : Option (List �
       (λ left. FinishedStands plan ticks left × Appends held0 held1 (capture_text (world LAG plan [] [] [] ticks)))
       (λ _. GrowsByFront held0 held1 (capture_text (world LAG plan [] [] [] ticks)))
 
--- in the midst of it: so many ticks ran, and the lines that they fill were written
-pub record Captures (plan : PlanData) (held0 held1 : Option (List ℕ)) (bus : Bus) (scribe : Scribe) : Type 0 where
+-- in the midst of it: so many ticks ran with these objects, and the lines that they fill were written
+pub record Captures (plan : PlanData) (held0 held1 : Option (List ℕ)) (bus : Bus) (writer : CaptureWriter)
+    (before told : List (Option (List Delivery))) (spare : List ℕ) : Type 0 where
   pub ticks : ℕ
   pub stands : BusStands plan ticks bus
-  pub before : (t : ℕ) → 0 ≤ t → t < ticks → has_ended plan t ≡ false
+  pub serves : Serves plan before (world LAG plan [] [] [] ticks) told spare
+  pub goes_on : (t : ℕ) → 0 ≤ t → t < ticks → has_ended plan t ≡ false
   pub text : List ℕ
-  pub lines : ScribeStands scribe (world LAG plan [] [] [] ticks) text
+  pub lines : CaptureWriterStands writer (world LAG plan [] [] [] ticks) text
   pub written : Appends held0 held1 (header ++ text)

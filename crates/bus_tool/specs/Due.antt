@@ -3,12 +3,14 @@ use Rattle.std.specs.Prelude.{◌≡◌, ℕ, ◌⊎◌, nat_lt, if◌then◌els
 use Rattle.bus_capture.specs.declared.refusal.CaptureRefusal.{CaptureRefusal}
 use Rattle.bus_capture.specs.declared.refusal.CaptureRefusal.TheVariants.{Header, Byte, HalfTick, Long}
 use Rattle.bus_formats.specs.Plans.{PlanData}
+use Rattle.bus_formats.specs.declared.log.Delivery.{Delivery}
 use Rattle.bus_plan.specs.PlanOf.{plan_of_bytes}
 use Rattle.bus_plan.specs.Refusals.{number_of, name_of, place_of}
 use Rattle.bus_plan.specs.declared.refusal.PlanRefusal.{PlanRefusal}
 use Rattle.bus_run.specs.Stands.{EndsAfter}
 use Rattle.bus_text.specs.Texts.{line, number, spaced}
-use Rattle.bus_tool.specs.Texts.{is_built, plan_run, text_of}
+use Rattle.bus_tool.specs.Objects.{AreSame, AfterRun}
+use Rattle.bus_tool.specs.Texts.{plan_run, text_of}
 use Rattle.bus_tool.specs.declared.text.Text.{Text}
 
 -- the most bytes of a plan's text
@@ -20,9 +22,6 @@ words_refused = line (codes "words refused")
 
 abbrev pub too_long : List ℕ
 too_long = line (codes "input refused too-long")
-
-abbrev pub not_built : List ℕ
-not_built = line (codes "plan refused 0 not-built")
 
 abbrev pub place_text : Option (List ℕ) → List ℕ
 place_text None = []
@@ -43,23 +42,25 @@ capture_refusal_text (Long offset) = codes " long" ++ number offset
 abbrev pub capture_refusal_line : CaptureRefusal → List ℕ
 capture_refusal_line refusal = line (codes "capture refused" ++ capture_refusal_text refusal)
 
--- of a plan that isn't run for this text, too
-abbrev pub refusal_of : Text → Result PlanData PlanRefusal → Option (List ℕ)
-refusal_of text (Err refusal) = Some (refusal_line refusal)
-refusal_of text (Ok plan) = if is_built text plan then None else Some not_built
+abbrev pub refusal_of : Result PlanData PlanRefusal → Option (List ℕ)
+refusal_of (Err refusal) = Some (refusal_line refusal)
+refusal_of (Ok plan) = None
 
--- the line with which an input is refused, if it is: it is too long, it is no plan, or the plan isn't built
-abbrev pub input_refusal : Text → List ℕ → Option (List ℕ)
-input_refusal text input = if nat_lt limit (length input) then Some too_long else refusal_of text (plan_of_bytes input)
+-- the line with which an input is refused, if it is: it is too long, or it is no plan
+abbrev pub input_refusal : List ℕ → Option (List ℕ)
+input_refusal input = if nat_lt limit (length input) then Some too_long else refusal_of (plan_of_bytes input)
 
--- the bytes are the text of the whole run of the plan that was read
-pub record IsRunOf (text : Text) (input bytes : List ℕ) : Type 0 where
-  pub plan : PlanData
-  pub read : plan_of_bytes input ≡ Ok plan
-  pub ticks : ℕ
-  pub ends : EndsAfter (plan_run text plan) 0 ticks
-  pub bytes_are : bytes ≡ text_of text (plan_run text plan) ticks
+module _ (told0 told1 : List (Option (List Delivery))) (said0 said1 : List (List ℕ)) where
+  -- the bytes are the text of the whole run of the plan that was read
+  pub record IsRunOf (text : Text) (input bytes : List ℕ) : Type 0 where
+    pub plan : PlanData
+    pub read : plan_of_bytes input ≡ Ok plan
+    pub ticks : ℕ
+    pub ends : EndsAfter (plan_run text plan) 0 ticks
+    pub objects : AfterRun told0 told1 said0 said1 text (plan_run text plan) ticks
+    pub bytes_are : bytes ≡ text_of text (plan_run text plan) ticks said1
 
--- bytes that are due for an input
-abbrev pub IsDue : Text → List ℕ → List ℕ → Type 0
-IsDue text input bytes = (input_refusal text input ≡ Some bytes) ⊎ ((input_refusal text input ≡ None) × IsRunOf text input bytes)
+  -- bytes that are due for an input, with the objects as they are then: the line of a refusal, at which they stay, or the text of a run
+  abbrev pub IsDue : Text → List ℕ → List ℕ → Type 0
+  IsDue text input bytes =
+      ((input_refusal input ≡ Some bytes) × AreSame told0 told1 said0 said1) ⊎ ((input_refusal input ≡ None) × IsRunOf text input bytes)

@@ -1,9 +1,9 @@
--- What each answer of the top call shows: how it came about, what was read, and what was written. Everything is said over what the source
--- had left and the sink held before and after, where they tell it, and over their counts of faults.
-use Rattle.std.specs.Prelude.{◌≡◌, ℕ, ◌+◌, ◌≤◌, ◌⊎◌, List, [], ◌++◌, take, length, codes, Option, Some, None, Ok}
+-- What each answer of the top call shows: how it came about, what was read, what was written, and what became of the objects for
+-- subsystems. Everything is said over what the source had left and the sink held before and after, where they tell it, over their counts of
+-- faults, and over what the objects told and said before and after, in their order.
+use Rattle.std.specs.Prelude.{◌≡◌, ℕ, ◌+◌, ◌≤◌, ◌⊎◌, List, take, length, Option, Some, None, Ok}
 use Rattle.std.specs.Io.KnownBytes.{Consumes, IsAtEnd, Appends}
 use Rattle.bus_base.specs.declared.samples.Pair.{Pair}
-use Rattle.bus_capture.specs.declared.refusal.CaptureRefusal.{CaptureRefusal}
 use Rattle.bus_line.specs.declared.cutter.TheConstants.{LAG}
 use Rattle.bus_monitor.specs.Listings.{word_listing, message_listing}
 use Rattle.bus_monitor.specs.Progress.{word_lines, message_lines}
@@ -11,6 +11,7 @@ use Rattle.bus_monitor.specs.Scribes.{IsListed, ListingHasCause}
 use Rattle.bus_monitor.specs.declared.listing.Listing.{Listing}
 use Rattle.bus_monitor.specs.declared.listing.Listing.TheVariants.{Done, Refused, ReadFault, WriteFault}
 use Rattle.bus_formats.specs.Plans.{PlanData}
+use Rattle.bus_formats.specs.declared.log.Delivery.{Delivery}
 use Rattle.bus_model.specs.WorldLog.{world_log}
 use Rattle.bus_outside.specs.Causes.{Rose, GrowsByFront}
 use Rattle.bus_plan.specs.PlanOf.{plan_of_bytes}
@@ -18,6 +19,7 @@ use Rattle.bus_run.specs.Stands.{EndsAfter, FinishedStands}
 use Rattle.bus_run.specs.declared.finished.FinishedBus.{FinishedBus}
 use Rattle.bus_tool.specs.Answers.{WroteDue}
 use Rattle.bus_tool.specs.Due.{limit, input_refusal, words_refused, capture_refusal_line, IsDue}
+use Rattle.bus_tool.specs.Objects.{AreSame, AfterRun}
 use Rattle.bus_tool.specs.Texts.{plan_run, text_of, status_of}
 use Rattle.bus_tool.specs.declared.words.Command.{Command}
 use Rattle.bus_tool.specs.declared.words.Command.TheVariants as commands
@@ -38,12 +40,25 @@ StatusAfter held held1 sink sink1 status (Refused refusal) = WroteDue held held1
 StatusAfter held held1 sink sink1 status ReadFault = (status ≡ 4) × (held1 ≡ held) × (sink1 ≡ sink)
 StatusAfter held held1 sink sink1 status WriteFault = (status ≡ 5) × (held1 ≡ held) × (sink1 ≡ sink)
 
-module _ (left0 left1 held0 held1 : Option (List ℕ)) (source0 source1 sink0 sink1 : ℕ) (status : ℕ) (bus : Option FinishedBus) where
+-- a capture was listed: the lines of its ticks, then the whole listing at its end; never for want of memory
+module _ (left0 left1 held0 held1 : Option (List ℕ)) (source0 source1 sink0 sink1 : ℕ) (status : ℕ) where
+  pub record ListsCapture (lines whole : List Pair → List ℕ) : Type 0 where
+    pub listing : Listing
+    pub held : Option (List ℕ)
+    pub sink : ℕ
+    pub listed : IsListed lines whole left0 left1 held0 held listing
+    pub cause : ListingHasCause source0 source1 sink0 sink listing
+    pub later : sink ≤ sink1
+    pub answer : StatusAfter held held1 sink sink1 status listing
+
+module _ (left0 left1 held0 held1 : Option (List ℕ)) (source0 source1 sink0 sink1 : ℕ) (status : ℕ) (bus : Option FinishedBus)
+    (told0 told1 : List (Option (List Delivery))) (said0 said1 : List (List ℕ)) where
   -- ---- words without a meaning
 
-  -- the status is 2, or 5 where the line's write failed; nothing is read
+  -- the status is 2, or 5 where the line's write failed; nothing is read, and the objects stay
   pub record EndsUnmeant : Type 0 where
     pub no_bus : bus ≡ None
+    pub objects : AreSame told0 told1 said0 said1
     pub unread : left1 ≡ left0
     pub later : sink0 ≤ sink1
     pub wrote : WroteDue held0 held1 sink0 sink1 status 2 words_refused
@@ -51,11 +66,11 @@ module _ (left0 left1 held0 held1 : Option (List ℕ)) (source0 source1 sink0 si
   -- ---- the commands that run a plan, each with its text
 
   -- the input was read, its plan was run to its end, and the whole text of that run was written; the answer has the bus, whose stations
-  -- went through every tick of it, and the status is that of its log
+  -- went through every tick of it, the objects are those of that run, and the status is that of its log
   pub record Ran (text : Text) : Type 0 where
     pub input : List ℕ
     pub read : ReadsInput left0 left1 input
-    pub accepted : input_refusal text input ≡ None
+    pub accepted : input_refusal input ≡ None
     pub plan : PlanData
     pub is_plan : plan_of_bytes input ≡ Ok plan
     pub ticks : ℕ
@@ -63,30 +78,37 @@ module _ (left0 left1 held0 held1 : Option (List ℕ)) (source0 source1 sink0 si
     pub left : FinishedBus
     pub has : bus ≡ Some left
     pub stands : FinishedStands (plan_run text plan) ticks left
+    pub objects : AfterRun told0 told1 said0 said1 text (plan_run text plan) ticks
     pub status_is : status ≡ status_of (world_log LAG (plan_run text plan) ticks)
-    pub written : Appends held0 held1 (text_of text (plan_run text plan) ticks)
+    pub written : Appends held0 held1 (text_of text (plan_run text plan) ticks said1)
 
-  -- the input was read and is refused, and the refusal's line was written
-  pub record WasRefused (text : Text) : Type 0 where
+  -- the input was read and is refused, the refusal's line was written, and the objects stay
+  pub record WasRefused : Type 0 where
     pub input : List ℕ
     pub read : ReadsInput left0 left1 input
     pub line : List ℕ
-    pub due : input_refusal text input ≡ Some line
+    pub due : input_refusal input ≡ Some line
     pub written : Appends held0 held1 line
+    pub objects : AreSame told0 told1 said0 said1
 
   -- a front of the bytes that were due was written
   pub record Stopped (text : Text) : Type 0 where
     pub input : List ℕ
     pub read : ReadsInput left0 left1 input
     pub bytes : List ℕ
-    pub due : IsDue text input bytes
+    pub due : IsDue told0 told1 said0 said1 text input bytes
     pub front : GrowsByFront held0 held1 bytes
 
+  -- nothing was written, and the objects stay
+  pub record DidNothing : Type 0 where
+    pub unwritten : held1 ≡ held0
+    pub objects : AreSame told0 told1 said0 said1
+
   -- the input isn't refused, and neither the source nor the sink failed
-  pub record IsFine (text : Text) : Type 0 where
+  pub record IsFine : Type 0 where
     pub told : List ℕ
     pub left : left0 ≡ Some told
-    pub accepted : input_refusal text (take (limit + 1) told) ≡ None
+    pub accepted : input_refusal (take (limit + 1) told) ≡ None
     pub source : Rose source0 source1 → ⊥
     pub sink : Rose sink0 sink1 → ⊥
 
@@ -101,28 +123,23 @@ module _ (left0 left1 held0 held1 : Option (List ℕ)) (source0 source1 sink0 si
     -- 2: only for words without a meaning
     pub meant : status ≡ 2 → ⊥
     -- 3: the input was read and is refused
-    pub refused : status ≡ 3 → WasRefused text
+    pub refused : status ≡ 3 → WasRefused
     -- 4: only where the source failed; nothing was written
-    pub read_fault : status ≡ 4 → Rose source0 source1 × (held1 ≡ held0)
+    pub read_fault : status ≡ 4 → Rose source0 source1 × DidNothing
     -- 5: only where the sink failed; a front of the bytes that were due was written
     pub write_fault : status ≡ 5 → Rose sink0 sink1 × Stopped text
     -- 6: want of memory, and nothing was written
-    pub memory : status ≡ 6 → held1 ≡ held0
+    pub memory : status ≡ 6 → DidNothing
     -- where all is fine it is done, unless memory is wanting
-    pub complete : IsFine text → (status ≡ 0) ⊎ (status ≡ 1) ⊎ (status ≡ 6)
+    pub complete : IsFine → (status ≡ 0) ⊎ (status ≡ 1) ⊎ (status ≡ 6)
 
   -- ---- the commands that list a capture
 
-  -- a capture was listed: the lines of its ticks, then the whole listing at its end; never for want of memory
+  -- the objects stay
   pub record EndsListing (lines whole : List Pair → List ℕ) : Type 0 where
     pub no_bus : bus ≡ None
-    pub listing : Listing
-    pub held : Option (List ℕ)
-    pub sink : ℕ
-    pub listed : IsListed lines whole left0 left1 held0 held listing
-    pub cause : ListingHasCause source0 source1 sink0 sink listing
-    pub later : sink ≤ sink1
-    pub answer : StatusAfter held held1 sink sink1 status listing
+    pub objects : AreSame told0 told1 said0 said1
+    pub lists : ListsCapture left0 left1 held0 held1 source0 source1 sink0 sink1 status lines whole
 
   -- ---- every command
 

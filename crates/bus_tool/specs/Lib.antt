@@ -1,8 +1,8 @@
 pub mod Meaning
-pub mod Built
+pub mod Objects
 pub mod Texts
 pub mod Due
 pub mod Ends
 pub mod Answers
-pub mod Scribes
+pub mod CaptureWriters
 pub mod Captured

@@ -1,22 +1,20 @@
 //! The top call: all that the program does, with the cause of each of its answers.
 #![tactic(auto)]
 
-mod built;
 mod capture;
+mod capture_writer;
 mod ended;
 mod input;
 mod listing;
 mod outcome;
 mod refusals;
 mod run;
-mod scribe;
 #[cfg(test)]
 mod tests;
 mod text;
 mod tool;
 mod words;
 
-pub use built::is_built;
 pub use ended::Ended;
 pub use text::Text;
 pub use tool::bus_tool;

@@ -1,9 +1,9 @@
 //! The commands that list a capture.
-ghost use Rattle.std.specs.Prelude.{◌≡◌, ◌≤◌, Some, None};
+ghost use Rattle.std.specs.Prelude.{◌≡◌, ◌≤◌};
 ghost use Rattle.bus_line.specs.declared.cutter.TheConstants.{LAG};
 ghost use Rattle.bus_monitor.specs.Listings.{word_listing, message_listing};
 ghost use Rattle.bus_monitor.specs.Progress.{word_lines, message_lines};
-ghost use Rattle.bus_tool.specs.Ends.{EndsListing, StatusAfter};
+ghost use Rattle.bus_tool.specs.Ends.{ListsCapture, StatusAfter};
 
 use crate::refusals::capture_refusal_line;
 use bus_monitor::{Listing, list_messages, list_words};
@@ -11,8 +11,8 @@ use bus_outside::{Sink, Source};
 
 /// The command `decode`: the valid words of a capture.
 pub fn decode<S: Source, K: Sink>(source: &mut S, sink: &mut K) -> u8
-    ensures { EndsListing (S.left source.old) (S.left source.new) (K.held sink.old) (K.held sink.new)
-        (S.faults source.old) (S.faults source.new) (K.faults sink.old) (K.faults sink.new) result None (word_lines LAG) (word_listing LAG) }
+    ensures { ListsCapture (S.left source.old) (S.left source.new) (K.held sink.old) (K.held sink.new)
+        (S.faults source.old) (S.faults source.new) (K.faults sink.old) (K.faults sink.new) result (word_lines LAG) (word_listing LAG) }
 {
     let listing = list_words(source, sink);
     status_after(listing, sink)
@@ -20,8 +20,8 @@ pub fn decode<S: Source, K: Sink>(source: &mut S, sink: &mut K) -> u8
 
 /// The command `messages`: the messages of a capture, with how they ended.
 pub fn messages<S: Source, K: Sink>(source: &mut S, sink: &mut K) -> u8
-    ensures { EndsListing (S.left source.old) (S.left source.new) (K.held sink.old) (K.held sink.new)
-        (S.faults source.old) (S.faults source.new) (K.faults sink.old) (K.faults sink.new) result None (message_lines LAG) (message_listing LAG) }
+    ensures { ListsCapture (S.left source.old) (S.left source.new) (K.held sink.old) (K.held sink.new)
+        (S.faults source.old) (S.faults source.new) (K.faults sink.old) (K.faults sink.new) result (message_lines LAG) (message_listing LAG) }
 {
     let listing = list_messages(source, sink);
     status_after(listing, sink)

@@ -1,12 +1,14 @@
 //! The commands that run a plan: what an input is answered with.
-ghost use Rattle.std.specs.Prelude.{◌≡◌, ℕ, ◌≤◌, []};
+ghost use Rattle.std.specs.Prelude.{◌≡◌, ℕ, ◌≤◌, List, [], map, vec_len, Option};
 ghost use Rattle.bus_formats.specs.Accepted.{IsAccepted};
 ghost use Rattle.bus_formats.specs.Plans.{PlanData};
+ghost use Rattle.bus_formats.specs.declared.log.Delivery.{Delivery};
+ghost use Rattle.bus_run.specs.Deliveries.{Serves};
+ghost use Rattle.bus_run.specs.Kept.{places};
 ghost use Rattle.bus_run.specs.Stands.{BusStands, FinishedStands};
-ghost use Rattle.bus_tool.specs.Answers.{Answers, AnswersPlan, AnswersRefused, AnswersRun, Wrote};
-ghost use Rattle.bus_tool.specs.Texts.{text_of};
+ghost use Rattle.bus_tool.specs.Answers.{Answers, AnswersRefused, AnswersRun, Wrote};
+ghost use Rattle.bus_tool.specs.Texts.{plan_run, text_of};
 
-use crate::built::is_built;
 use crate::capture::write_capture;
 use crate::ended::Ended;
 use crate::input::LIMIT;
@@ -22,8 +24,17 @@ use bus_subsystem::Subsystem;
 use std::alloc::Global;
 
 /// How a command that writes this text ends, over an input that was read.
-pub fn answer<K: Sink>(text: Text, alloc: Global, input: &[u8], sink: &mut K) -> Ended
-    ensures { Answers (K.held sink.old) (K.held sink.new) (K.faults sink.old) (K.faults sink.new) result.status result.bus text input.now }
+pub fn answer<K: Sink>(
+    text: Text,
+    alloc: Global,
+    input: &[u8],
+    sink: &mut K,
+    subsystems: &mut Vec<Box<dyn Subsystem>>,
+) -> Ended
+    requires { vec_len subsystems.old ≡ 62 }
+    ensures { Answers (K.held sink.old) (K.held sink.new) (K.faults sink.old) (K.faults sink.new) result.status result.bus
+        (map (λ b. told b) subsystems.old.items) (map (λ b. told b) subsystems.new.items)
+        (map (λ b. said b) subsystems.old.items) (map (λ b. said b) subsystems.new.items) text input.now }
 {
     if input.len() > LIMIT {
         return refuse(b"input refused too-long\n", sink);
@@ -34,7 +45,7 @@ pub fn answer<K: Sink>(text: Text, alloc: Global, input: &[u8], sink: &mut K) ->
             bus: None,
         },
         Err(PlanError::Refused(refusal)) => refuse(refusal_line(&refusal).as_bytes(), sink),
-        Ok(plan) => answer_plan(text, alloc, plan, sink),
+        Ok(plan) => run_plan(text, alloc, plan, sink, subsystems),
     }
 }
 
@@ -54,59 +65,70 @@ fn refuse<K: Sink>(line: &[u8], sink: &mut K) -> Ended
     }
 }
 
-fn answer_plan<K: Sink>(text: Text, alloc: Global, plan: Plan, sink: &mut K) -> Ended
-    requires { IsAccepted plan }
-    ensures { AnswersPlan (K.held sink.old) (K.held sink.new) (K.faults sink.old) (K.faults sink.new) result.status result.bus text plan }
+// Runs a plan, and writes this text of its run.
+fn run_plan<K: Sink>(
+    text: Text,
+    alloc: Global,
+    plan: Plan,
+    sink: &mut K,
+    subsystems: &mut Vec<Box<dyn Subsystem>>,
+) -> Ended
+    requires accepted { IsAccepted plan }
+    requires all { vec_len subsystems.old ≡ 62 }
+    ensures { AnswersRun (K.held sink.old) (K.held sink.new) (K.faults sink.old) (K.faults sink.new) result.status result.bus
+        (map (λ b. told b) subsystems.old.items) (map (λ b. told b) subsystems.new.items)
+        (map (λ b. said b) subsystems.old.items) (map (λ b. said b) subsystems.new.items) text (plan_run text plan) }
 {
-    if !is_built(text, &plan) {
-        return refuse(b"plan refused 0 not-built\n", sink);
-    }
     match text {
-        Text::Report => report_run(alloc, &plan, sink),
+        Text::Report => report_run(alloc, &plan, sink, subsystems),
         Text::Capture => capture_run(alloc, plan.without_subsystems(), sink),
     }
 }
 
-// Runs a plan that names no subsystem, and writes its report.
-fn report_run<K: Sink>(alloc: Global, plan: &Plan, sink: &mut K) -> Ended
-    requires { IsAccepted plan.now }
-    ensures { AnswersRun (K.held sink.old) (K.held sink.new) (K.faults sink.old) (K.faults sink.new) result.status result.bus Text.Report plan.now }
+// Runs a plan with the objects that it names, and writes its report.
+fn report_run<K: Sink>(
+    alloc: Global,
+    plan: &Plan,
+    sink: &mut K,
+    subsystems: &mut Vec<Box<dyn Subsystem>>,
+) -> Ended
+    requires accepted { IsAccepted plan.now }
+    requires all { vec_len subsystems.old ≡ 62 }
+    ensures { AnswersRun (K.held sink.old) (K.held sink.new) (K.faults sink.old) (K.faults sink.new) result.status result.bus
+        (map (λ b. told b) subsystems.old.items) (map (λ b. told b) subsystems.new.items)
+        (map (λ b. said b) subsystems.old.items) (map (λ b. said b) subsystems.new.items) Text.Report plan.now }
 {
-    match Bus::prepare(alloc, plan) {
+    match Bus::prepare(alloc, plan, subsystems) {
         Err(_) => Ended {
             status: 6,
             bus: None,
         },
-        Ok(bus) => write_report(alloc, bus.finish(), plan, sink),
+        Ok(bus) => {
+            let left = bus.finish(subsystems);
+            write_report(left, plan, subsystems, sink)
+        }
     }
 }
 
-// Runs a plan, and writes the capture of its run.
-fn capture_run<K: Sink>(alloc: Global, plan: Plan, sink: &mut K) -> Ended
-    requires { IsAccepted plan }
-    ensures { AnswersRun (K.held sink.old) (K.held sink.new) (K.faults sink.old) (K.faults sink.new) result.status result.bus Text.Capture plan }
+// Writes the report of a run.
+fn write_report<K: Sink>(
+    bus: FinishedBus,
+    plan: &Plan,
+    subsystems: &Vec<Box<dyn Subsystem>>,
+    sink: &mut K,
+) -> Ended
+    requires accepted { IsAccepted plan.now }
+    requires ran { (t : ℕ) × FinishedStands plan.now t bus }
+    ensures wrote { (t : ℕ) → FinishedStands plan.now t bus → Wrote (K.held sink.old) (K.held sink.new) (K.faults sink.old) (K.faults sink.new)
+        result.status result.bus (text_of Text.Report plan.now t (map (λ b. said b) subsystems.now.items)) plan.now t }
+    ensures later { K.faults sink.old ≤ K.faults sink.new }
 {
-    match Bus::prepare(alloc, &plan) {
-        Err(_) => Ended {
-            status: 6,
-            bus: None,
-        },
-        Ok(bus) => captured(bus, sink),
-    }
-}
-
-// Runs a bus, and writes the capture of its run.
-fn captured<K: Sink>(bus: Bus, sink: &mut K) -> Ended
-    requires { (plan : PlanData) × BusStands plan 0 bus }
-    ensures { (plan : PlanData) → BusStands plan 0 bus →
-        AnswersRun (K.held sink.old) (K.held sink.new) (K.faults sink.old) (K.faults sink.new) result.status result.bus Text.Capture plan }
-{
-    match write_capture(bus, sink) {
-        Ok(left) => {
-            let status = status_of(left.log());
+    match report(bus.log(), plan, subsystems, sink) {
+        Ok(()) => {
+            let status = status_of(bus.log());
             Ended {
                 status,
-                bus: Some(left),
+                bus: Some(bus),
             }
         }
         Err(_) => Ended {
@@ -116,21 +138,39 @@ fn captured<K: Sink>(bus: Bus, sink: &mut K) -> Ended
     }
 }
 
-// Writes the report of a run without subsystems.
-fn write_report<K: Sink>(alloc: Global, bus: FinishedBus, plan: &Plan, sink: &mut K) -> Ended
-    requires accepted { IsAccepted plan.now }
-    requires ran { (t : ℕ) × FinishedStands plan.now t bus }
-    ensures wrote { (t : ℕ) → FinishedStands plan.now t bus → Wrote (K.held sink.old) (K.held sink.new) (K.faults sink.old) (K.faults sink.new)
-        result.status result.bus (text_of Text.Report plan.now t) plan.now t }
-    ensures later { K.faults sink.old ≤ K.faults sink.new }
+// Runs a plan that names no subsystem, without objects, and writes the capture of its run. Other objects stay, whatever they tell and say.
+fn capture_run<K: Sink>(alloc: Global, plan: Plan, sink: &mut K) -> Ended
+    requires accepted { IsAccepted plan }
+    requires none { places plan ≡ [] }
+    ensures { (other_told : List (Option (List Delivery))) (other_said : List (List ℕ)) →
+        AnswersRun (K.held sink.old) (K.held sink.new) (K.faults sink.old) (K.faults sink.new) result.status result.bus
+        other_told other_told other_said other_said Text.Capture plan }
 {
-    let subsystems: Vec<Box<dyn Subsystem>> = Vec::new(alloc);
-    match report(bus.log(), plan, &subsystems, sink) {
-        Ok(()) => {
-            let status = status_of(bus.log());
+    let mut subsystems: Vec<Box<dyn Subsystem>> = Vec::new(alloc);
+    match Bus::prepare(alloc, &plan, &mut subsystems) {
+        Err(_) => Ended {
+            status: 6,
+            bus: None,
+        },
+        Ok(bus) => captured(bus, sink, &mut subsystems),
+    }
+}
+
+// Runs a bus, and writes the capture of its run.
+fn captured<K: Sink>(bus: Bus, sink: &mut K, subsystems: &mut Vec<Box<dyn Subsystem>>) -> Ended
+    requires { (plan : PlanData) × (before : List (Option (List Delivery))) × BusStands plan 0 bus
+        × Serves plan before [] (map (λ b. told b) subsystems.old.items) (map (λ b. spare b) subsystems.old.items) }
+    ensures { (plan : PlanData) (before other_told : List (Option (List Delivery))) (other_said : List (List ℕ)) → BusStands plan 0 bus →
+        Serves plan before [] (map (λ b. told b) subsystems.old.items) (map (λ b. spare b) subsystems.old.items) →
+        AnswersRun (K.held sink.old) (K.held sink.new) (K.faults sink.old) (K.faults sink.new) result.status result.bus
+        other_told other_told other_said other_said Text.Capture plan }
+{
+    match write_capture(bus, sink, subsystems) {
+        Ok(left) => {
+            let status = status_of(left.log());
             Ended {
                 status,
-                bus: Some(bus),
+                bus: Some(left),
             }
         }
         Err(_) => Ended {

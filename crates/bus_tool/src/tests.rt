@@ -1,22 +1,70 @@
-// The statuses and the text of the top call. The plan and its report are a worked row of the project's.
-use crate::bus_tool;
+// The statuses, the text and the objects that the top call leaves. The plans and their texts are worked rows of the project's.
+ghost use Rattle.std.specs.Prelude.{[], None};
+
+use crate::{Ended, bus_tool};
+use bus_formats::Delivery;
 use bus_outside::{MemorySink, MemorySource};
+use bus_subsystem::{LineText, Recorder, Subsystem, Tally};
+use std::alloc::AllocError;
+use std::process::Abort;
 use std::test::Fail;
 
-const PLAN: &str =
-    "version = 1\nstart = 31\n[[station]]\naddress = 31\n[[station.frame]]\n[[station.frame.item]]\nform = \"receive\"\nto = 5\nsub = 1\nwords = [0x0102, 0x0304]\n[[station]]\naddress = 5\n";
+// A line more at its end names the subsystem of the station with the address 5.
+const PLAN: &str = "version = 1
+start = 31
+[[station]]
+address = 31
+[[station.frame]]
+[[station.frame.item]]
+form = \"receive\"
+to = 5
+sub = 1
+words = [0x0102, 0x0304]
+[[station]]
+address = 5
+";
 
-const FIRST_LINE: &str = "attempt 1 station 31 frame 1 item 1 try 1 A 8 2822 clear status 2800\n";
+const FIRST_LINE: &str = "attempt 1 station 31 frame 1 item 1 try 1 A 8 2822 clear status 2800
+";
 
-const REPORT: &str =
-    "attempt 1 station 31 frame 1 item 1 try 1 A 8 2822 clear status 2800\nword 8 A c 2822\nword 48 A d 0102\nword 88 A d 0304\nword 132 A c 2800\nburst 8 A 120 3\nburst 132 A 40 1\nterminal 5 status 2800 last 2822 off -\nblock 5 1 0102 0304\nend 252 clashes 0\n";
+// The report of that plan up to its last line, before which stands what a subsystem says.
+const LINES: &str = "attempt 1 station 31 frame 1 item 1 try 1 A 8 2822 clear status 2800
+word 8 A c 2822
+word 48 A d 0102
+word 88 A d 0304
+word 132 A c 2800
+burst 8 A 120 3
+burst 132 A 40 1
+terminal 5 status 2800 last 2822 off -
+block 5 1 0102 0304
+";
+
+const LAST_LINE: &str = "end 252 clashes 0
+";
 
 // Offers a mode command that no terminal may know: it is refused as illegal.
-const ILLEGAL_PLAN: &str =
-    "version = 1\nstart = 31\n[[station]]\naddress = 31\n[[station.frame]]\n[[station.frame.item]]\nform = \"mode\"\nto = 5\ncode = 9\n[[station]]\naddress = 5\n";
+const ILLEGAL_PLAN: &str = "version = 1
+start = 31
+[[station]]
+address = 31
+[[station.frame]]
+[[station.frame.item]]
+form = \"mode\"
+to = 5
+code = 9
+[[station]]
+address = 5
+";
 
 const ILLEGAL_REPORT: &str =
-    "attempt 1 station 31 frame 1 item 1 try 1 A 8 2C09 illegal 1 status 2C00\nword 8 A c 2C09\nword 52 A c 2C00\nburst 8 A 40 1\nburst 52 A 40 1\nterminal 5 status 2C00 last 2C09 off -\nend 172 clashes 0\n";
+    "attempt 1 station 31 frame 1 item 1 try 1 A 8 2C09 illegal 1 status 2C00
+word 8 A c 2C09
+word 52 A c 2C00
+burst 8 A 40 1
+burst 52 A 40 1
+terminal 5 status 2C00 last 2C09 off -
+end 172 clashes 0
+";
 
 // The capture of the first plan, a worked row of the project's.
 const CAPTURE: &str = "1553 capture 1
@@ -26,108 +74,203 @@ const CAPTURE: &str = "1553 capture 1
 ........................................................................................................................
 ";
 
-// The status of this command over this plan, whether its answer has a bus, and what is written, where the source gives so many bytes at most, and these reads and writes fail.
-fn run_over(
-    rt: &HostRuntime,
-    command: &str,
-    plan: &str,
+// An object for which there is never memory.
+#[derive(Drop)]
+struct Roomless;
+
+impl Subsystem for Roomless {
+    ghost told = { λ _. None };
+
+    ghost spare = { λ _. 0 };
+
+    ghost said = { λ _. [] };
+
+    fn reserve(&mut self, n: usize) -> Result<(), AllocError> {
+        if n == 0 { Ok(()) } else { Err(AllocError) }
+    }
+
+    fn take(&mut self, _delivery: Delivery) {}
+
+    fn line(&self, _text: &mut LineText) {}
+}
+
+// What is left of a call over a plan.
+#[derive(Drop)]
+struct Left {
+    ended: Ended,
+    sink: MemorySink,
+    objects: usize,
+}
+
+// How the streams behave: how many bytes a read gives at most, and the numbers of the reads and writes that fail.
+#[derive(Drop)]
+struct Streams {
     most: usize,
     failing_reads: Vec<u64>,
     failing_writes: Vec<u64>,
-) -> Result<(u8, bool, MemorySink), Fail> {
+}
+
+impl Streams {
+    fn steady(rt: &HostRuntime, most: usize) -> Streams {
+        Streams {
+            most,
+            failing_reads: Vec::new(rt.alloc()),
+            failing_writes: Vec::new(rt.alloc()),
+        }
+    }
+}
+
+// Calls the top call with this word, over this plan and 62 objects. Where there is no room, the recorder of the address 5 has none.
+fn run_over(
+    rt: &(impl Abort + AllocGlobal),
+    word: &str,
+    plan: &str,
+    streams: Streams,
+    has_room: bool,
+) -> Result<Left, Fail> {
     let mut words = Vec::new(rt.alloc());
-    words.push(String::from_str(rt.alloc(), command)?)?;
+    words.push(String::from_str(rt.alloc(), word)?)?;
     let mut bytes = Vec::new(rt.alloc());
     bytes.extend_from_slice(plan.as_bytes())?;
-    let mut source = MemorySource::new(bytes, failing_reads, most.max(1));
-    let mut sink = MemorySink::new(rt.alloc(), 4096, failing_writes)?;
-    let ended = bus_tool(rt.alloc(), words.as_slice(), &mut source, &mut sink);
-    Ok((ended.status, ended.bus.is_some(), sink))
+    let mut source = MemorySource::new(bytes, streams.failing_reads, streams.most.max(1));
+    let mut sink = MemorySink::new(rt.alloc(), 4096, streams.failing_writes)?;
+    let mut subsystems: Vec<Box<dyn Subsystem>> = Vec::new(rt.alloc());
+    for address in 0..31 {
+        if address == 5 && !has_room {
+            subsystems.push(Box::new(rt.alloc(), Roomless)?)?;
+        } else {
+            subsystems.push(Box::new(rt.alloc(), Recorder::new(rt.alloc()))?)?;
+        }
+    }
+    for _ in 0..31 {
+        subsystems.push(Box::new(rt.alloc(), Tally::new())?)?;
+    }
+    assert!(rt; subsystems.len() == 62);
+    let ended = bus_tool(
+        rt.alloc(),
+        words.as_slice(),
+        &mut source,
+        &mut sink,
+        &mut subsystems,
+    );
+    Ok(Left {
+        ended,
+        sink,
+        objects: subsystems.len(),
+    })
+}
+
+// The plan whose station with the address 5 names a subsystem.
+fn plan_with(rt: &HostRuntime, subsystem: &str) -> Result<String, Fail> {
+    let mut plan = String::from_str(rt.alloc(), PLAN)?;
+    plan.push_str("subsystem = \"")?;
+    plan.push_str(subsystem)?;
+    plan.push_str("\"\n")?;
+    Ok(plan)
+}
+
+// The report in which a subsystem says this line.
+fn report_with(rt: &HostRuntime, line: &str) -> Result<String, Fail> {
+    let mut report = String::from_str(rt.alloc(), LINES)?;
+    report.push_str(line)?;
+    report.push_str(LAST_LINE)?;
+    Ok(report)
 }
 
 #[test]
 fn one_message_from_plan_to_report(rt: HostRuntime) -> Result<(), Fail> {
-    let (status, has_bus, sink) = run_over(
-        &rt,
-        "run",
-        PLAN,
-        10,
-        Vec::new(rt.alloc()),
-        Vec::new(rt.alloc()),
-    )?;
-    assert_eq!(rt; status, 0, "memory is ample");
-    assert_eq!(rt; has_bus, true);
-    assert_eq!(rt; sink.bytes(), REPORT.as_bytes());
+    let left = run_over(&rt, "run", PLAN, Streams::steady(&rt, 10), true)?;
+    assert_eq!(rt; left.ended.status, 0, "memory is ample");
+    assert_eq!(rt; left.ended.bus.is_some(), true);
+    let report = report_with(&rt, "")?;
+    assert_eq!(rt; left.sink.bytes(), report.as_bytes());
+    assert_eq!(rt; left.objects, 0, "no station names one");
+    Ok(())
+}
+
+#[test]
+fn one_message_to_a_subsystem(rt: HostRuntime) -> Result<(), Fail> {
+    for (subsystem, line) in [
+        ("recorder", "subsystem 5 recorder blocks 1 words 2\n"),
+        ("tally", "subsystem 5 tally 1:1\n"),
+    ] {
+        let plan = plan_with(&rt, subsystem)?;
+        let left = run_over(&rt, "run", plan.as_str(), Streams::steady(&rt, 4096), true)?;
+        assert_eq!(rt; left.ended.status, 0, "memory is ample");
+        assert_eq!(rt; left.ended.bus.is_some(), true);
+        let report = report_with(&rt, line)?;
+        assert_eq!(rt; left.sink.bytes(), report.as_bytes());
+        assert_eq!(rt; left.objects, 1, "the one that the plan names");
+    }
+    Ok(())
+}
+
+#[test]
+fn a_subsystem_without_room(rt: HostRuntime) -> Result<(), Fail> {
+    let plan = plan_with(&rt, "recorder")?;
+    let left = run_over(&rt, "run", plan.as_str(), Streams::steady(&rt, 4096), false)?;
+    assert_eq!(rt; left.ended.status, 6);
+    assert_eq!(rt; left.ended.bus.is_some(), false);
+    assert_eq!(rt; left.sink.bytes(), b"".as_slice());
+    assert_eq!(rt; left.objects, 62);
     Ok(())
 }
 
 #[test]
 fn one_message_that_is_refused(rt: HostRuntime) -> Result<(), Fail> {
-    let (status, has_bus, sink) = run_over(
-        &rt,
-        "run",
-        ILLEGAL_PLAN,
-        4096,
-        Vec::new(rt.alloc()),
-        Vec::new(rt.alloc()),
-    )?;
-    assert_eq!(rt; status, 1, "memory is ample");
-    assert_eq!(rt; has_bus, true);
-    assert_eq!(rt; sink.bytes(), ILLEGAL_REPORT.as_bytes());
+    let left = run_over(&rt, "run", ILLEGAL_PLAN, Streams::steady(&rt, 4096), true)?;
+    assert_eq!(rt; left.ended.status, 1, "memory is ample");
+    assert_eq!(rt; left.ended.bus.is_some(), true);
+    assert_eq!(rt; left.sink.bytes(), ILLEGAL_REPORT.as_bytes());
     Ok(())
 }
 
 #[test]
 fn one_message_on_the_line(rt: HostRuntime) -> Result<(), Fail> {
-    let (status, has_bus, sink) = run_over(
+    let plan = plan_with(&rt, "recorder")?;
+    let left = run_over(
         &rt,
         "capture",
-        PLAN,
-        4096,
-        Vec::new(rt.alloc()),
-        Vec::new(rt.alloc()),
+        plan.as_str(),
+        Streams::steady(&rt, 4096),
+        true,
     )?;
-    assert_eq!(rt; status, 0, "memory is ample");
-    assert_eq!(rt; has_bus, true);
-    assert_eq!(rt; sink.bytes(), CAPTURE.as_bytes());
+    assert_eq!(rt; left.ended.status, 0, "memory is ample");
+    assert_eq!(rt; left.ended.bus.is_some(), true);
+    assert_eq!(rt; left.sink.bytes(), CAPTURE.as_bytes());
+    assert_eq!(rt; left.objects, 62);
     Ok(())
 }
 
 #[test]
 fn a_source_that_fails(rt: HostRuntime) -> Result<(), Fail> {
-    let first = Vec::from_array(rt.alloc(), [1u64])?;
-    let (status, _, sink) = run_over(&rt, "run", PLAN, 4096, first, Vec::new(rt.alloc()))?;
-    assert_eq!(rt; status, 4);
-    assert_eq!(rt; sink.bytes(), b"".as_slice());
-    let second = Vec::from_array(rt.alloc(), [2u64])?;
-    let (status, _, sink) = run_over(&rt, "run", PLAN, 10, second, Vec::new(rt.alloc()))?;
-    assert_eq!(rt; status, 4, "in the middle of the plan");
-    assert_eq!(rt; sink.bytes(), b"".as_slice());
+    for (most, failing, message) in [(4096, 1, "at once"), (10, 2, "in the middle of the plan")] {
+        let mut streams = Streams::steady(&rt, most);
+        streams.failing_reads.push(failing)?;
+        let left = run_over(&rt, "run", PLAN, streams, true)?;
+        assert_eq!(rt; left.ended.status, 4, "{message}");
+        assert_eq!(rt; left.sink.bytes(), b"".as_slice());
+    }
     Ok(())
 }
 
 #[test]
 fn a_sink_that_fails(rt: HostRuntime) -> Result<(), Fail> {
-    let second = Vec::from_array(rt.alloc(), [2u64])?;
-    let (status, _, sink) = run_over(&rt, "run", PLAN, 4096, Vec::new(rt.alloc()), second)?;
-    assert_eq!(rt; status, 5);
-    assert_eq!(rt; sink.bytes(), FIRST_LINE.as_bytes());
-    let first = Vec::from_array(rt.alloc(), [1u64])?;
-    let (status, _, sink) = run_over(&rt, "run", "version =", 4096, Vec::new(rt.alloc()), first)?;
-    assert_eq!(rt; status, 5, "at a refusal's line");
-    assert_eq!(rt; sink.bytes(), b"".as_slice());
+    for (plan, failing, written) in [(PLAN, 2, FIRST_LINE), ("version =", 1, "")] {
+        let mut streams = Streams::steady(&rt, 4096);
+        streams.failing_writes.push(failing)?;
+        let left = run_over(&rt, "run", plan, streams, true)?;
+        assert_eq!(rt; left.ended.status, 5);
+        assert_eq!(rt; left.sink.bytes(), written.as_bytes());
+    }
     Ok(())
 }
 
 #[test]
 fn words_without_a_meaning(rt: HostRuntime) -> Result<(), Fail> {
-    let words = Vec::new(rt.alloc());
-    let mut source = MemorySource::new(Vec::new(rt.alloc()), Vec::new(rt.alloc()), 1);
-    let mut sink = MemorySink::new(rt.alloc(), 4096, Vec::new(rt.alloc()))?;
-    assert_eq!(rt;
-        bus_tool(rt.alloc(), words.as_slice(), &mut source, &mut sink).status,
-        2
-    );
-    assert_eq!(rt; sink.bytes(), b"words refused\n".as_slice());
+    let left = run_over(&rt, "run now", PLAN, Streams::steady(&rt, 4096), true)?;
+    assert_eq!(rt; left.ended.status, 2);
+    assert_eq!(rt; left.sink.bytes(), b"words refused\n".as_slice());
+    assert_eq!(rt; left.objects, 62);
     Ok(())
 }

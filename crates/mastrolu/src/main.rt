@@ -1,13 +1,18 @@
-//! The program: its words, standard input and standard output, handed to the top call, whose status it ends with.
+//! The program: its words, standard input and standard output, and the objects for subsystems, handed to the top call, whose status it
+//! ends with.
 #![tactic(auto)]
 
 use bus_outside::{ReadSource, WriteSink};
+use bus_subsystem::{Recorder, Subsystem, Tally};
 use bus_tool::bus_tool;
 use std::env;
 use std::process::ExitCode;
 
-/// The status where memory for the words is refused.
+/// The status where memory for the words or the objects is refused.
 const NO_MEMORY: u8 = 6;
+
+/// Terminals have the addresses 0 to 30.
+const ADDRESSES: usize = 31;
 
 fn main(rt: HostRuntime) -> ExitCode {
     let mut words = Vec::new(rt.alloc());
@@ -19,8 +24,32 @@ fn main(rt: HostRuntime) -> ExitCode {
             return ExitCode::from(NO_MEMORY);
         }
     }
+    // The recorders of the addresses 0 to 30, and then the tallies of these. They are made here, since no function may hand out a boxed object.
+    let mut subsystems: Vec<Box<dyn Subsystem>> = Vec::new(rt.alloc());
+    'recorders: for _ in 0..ADDRESSES {
+        let Ok(recorder) = Box::new(rt.alloc(), Recorder::new(rt.alloc())) else {
+            return ExitCode::from(NO_MEMORY);
+        };
+        if subsystems.push(recorder).is_err() {
+            return ExitCode::from(NO_MEMORY);
+        }
+    }
+    'tallies: for _ in 0..ADDRESSES {
+        let Ok(tally) = Box::new(rt.alloc(), Tally::new()) else {
+            return ExitCode::from(NO_MEMORY);
+        };
+        if subsystems.push(tally).is_err() {
+            return ExitCode::from(NO_MEMORY);
+        }
+    }
     let mut source = ReadSource::new(rt.stdin());
     let mut sink = WriteSink::new(rt.stdout());
-    let ended = bus_tool(rt.alloc(), words.as_slice(), &mut source, &mut sink);
+    let ended = bus_tool(
+        rt.alloc(),
+        words.as_slice(),
+        &mut source,
+        &mut sink,
+        &mut subsystems,
+    );
     ExitCode::from(ended.status)
 }

@@ -1,6 +1,6 @@
 use Rattle.std.proofs.Common.{refl, ap, ◌∙◌, inl}
 use Rattle.bus_tool.specs.Texts.{status_of}
-use Rattle.bus_tool.proofs.Answering.{same-report}
+use Rattle.bus_tool.proofs.Serving.{same-report}
 use Rattle.bus_tool.proofs.Ranges.{log-fits}
 use Rattle.bus_tool.proofs.run.write_report.Goals as goal
 
@@ -14,5 +14,5 @@ returns-in-Ok-clause-wrote g c t st = inl record {
   has = refl;
   stands = st;
   status_is = c.status_of-status.ensures ∙ ap status_of (c.log-in-Ok.ensures c.args.plan.now t st);
-  written = same-report _ _ _ _ c.args.plan.now _ _ c.new-subsystems.ensures.items (c.log.ensures c.args.plan.now t st) c.in-Ok.ensures.bytes;
+  written = same-report _ _ _ c.args.plan.now _ _ (c.log.ensures c.args.plan.now t st) c.in-Ok.ensures.bytes;
 }

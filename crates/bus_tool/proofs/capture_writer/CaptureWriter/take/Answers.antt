@@ -1,10 +1,10 @@
 use Rattle.std.proofs.Common.{[], ◌+◌, set, refl, arith}
 use Rattle.bus_capture.specs.Captures.{ticks_text}
-use Rattle.bus_tool.specs.Scribes.{begun_of}
-use Rattle.bus_tool.specs.declared.scribe.Scribe.{Scribe}
+use Rattle.bus_tool.specs.CaptureWriters.{begun_of}
+use Rattle.bus_tool.specs.declared.capture_writer.CaptureWriter.{CaptureWriter}
 use Rattle.bus_tool.proofs.Capturing.{keeps}
-use Rattle.bus_tool.proofs.Scribing.{few-begun, stays-begun, begins-next}
-use Rattle.bus_tool.proofs.scribe.Scribe.take.Goals as goal
+use Rattle.bus_tool.proofs.WrittenLines.{few-begun, stays-begun, begins-next}
+use Rattle.bus_tool.proofs.capture_writer.CaptureWriter.take.Goals as goal
 
 pub offset_bounds-self-self : goal.offset_bounds-self-self
 offset_bounds-self-self g c = let few = few-begun c.args.self.now c.requires.0 c.requires.1 c.requires.2 in omega (arith, few)
@@ -28,7 +28,7 @@ write_line-requires-clause-few g c = let few = few-begun c.args.self.now c.requi
 pub returns-clause-took : goal.returns-clause-took
 returns-clause-took g c past text st =
     let line = set c.args.self.now.line c.args.self.now.begun c.args.shown in
-    let middle : Scribe = record { line = line; begun = c.args.self.now.begun + 1; text = c.args.self.now.text } in
+    let middle : CaptureWriter = record { line = line; begun = c.args.self.now.begun + 1; text = c.args.self.now.text } in
     record {
       piece = ticks_text 0 (begun_of middle);
       wrote = c.write_line.ensures.wrote;

@@ -3,7 +3,7 @@ ghost use Rattle.std.specs.Prelude.{◌≡◌, ◌≤◌, ◌<◌, ℕ, List, []
 ghost use Rattle.bus_base.specs.declared.samples.Pair.{Pair};
 ghost use Rattle.bus_capture.specs.Captures.{ticks_text};
 ghost use Rattle.bus_outside.specs.Causes.{WriteAdds, HasCause};
-ghost use Rattle.bus_tool.specs.Scribes.{begun_of, ScribeStands, TookTick};
+ghost use Rattle.bus_tool.specs.CaptureWriters.{begun_of, CaptureWriterStands, TookTick};
 
 use arrayvec::ArrayVec;
 use bus_base::{Pair, Sample};
@@ -18,19 +18,19 @@ const QUIET: Pair = Pair {
 
 /// Writes the ticks of a capture, a line for each 64 of them. It keeps the ticks of the line that is begun, and takes no memory.
 #[derive(Drop)]
-pub struct Scribe {
+pub struct CaptureWriter {
     // the ticks of the line that is begun, in front
     line: [Pair; 64],
     begun: usize,
     text: ArrayVec<u8, 129>,
 }
 
-impl Scribe {
-    /// A scribe that was given no tick.
-    pub fn new() -> Scribe
-        ensures { ScribeStands result [] [] }
+impl CaptureWriter {
+    /// A writer that was given no tick.
+    pub fn new() -> CaptureWriter
+        ensures { CaptureWriterStands result [] [] }
     {
-        Scribe {
+        CaptureWriter {
             line: [QUIET; 64],
             begun: 0,
             text: ArrayVec::new(),
@@ -39,8 +39,8 @@ impl Scribe {
 
     /// Takes the next tick. The line that it fills is written, in one write.
     pub fn take<K: Sink>(&mut self, shown: Pair, sink: &mut K) -> Result<(), Failed>
-        requires { (past : List Pair) × (text : List ℕ) × ScribeStands self.old past text }
-        ensures took { (past : List Pair) (text : List ℕ) → ScribeStands self.old past text →
+        requires { (past : List Pair) × (text : List ℕ) × CaptureWriterStands self.old past text }
+        ensures took { (past : List Pair) (text : List ℕ) → CaptureWriterStands self.old past text →
             TookTick (K.held sink.old) (K.held sink.new) result self.new (shown ∷ past) text }
         ensures cause { HasCause (K.faults sink.old) (K.faults sink.new) result }
     {
@@ -54,7 +54,7 @@ impl Scribe {
 
     /// Writes the line that is begun, if one is.
     pub fn end<K: Sink>(&mut self, sink: &mut K) -> Result<(), Failed>
-        requires { (past : List Pair) × (text : List ℕ) × ScribeStands self.old past text }
+        requires { (past : List Pair) × (text : List ℕ) × CaptureWriterStands self.old past text }
         ensures wrote { WriteAdds (K.held sink.old) (K.held sink.new) result (ticks_text 0 (begun_of self.old)) }
         ensures cause { HasCause (K.faults sink.old) (K.faults sink.new) result }
     {

@@ -1,0 +1,45 @@
+-- The objects that a run takes and leaves, and its report.
+use Rattle.std.proofs.Common.{◌≡◌, ℕ, ◌<◌, ◌≤◌, List, [], Option, inl}
+use Rattle.std.specs.Prelude.{All}
+use Rattle.std.proofs.lemmas.List.Elements.{All-nil}
+use Rattle.std.specs.Io.KnownBytes.{Appends}
+use Rattle.bus_formats.specs.Logs.{LogData}
+use Rattle.bus_formats.specs.Plans.{PlanData}
+use Rattle.bus_formats.specs.declared.log.Delivery.{Delivery}
+use Rattle.bus_line.specs.declared.cutter.TheConstants.{LAG}
+use Rattle.bus_model.specs.World.{world, ticks_on}
+use Rattle.bus_report.specs.Report.{report_text}
+use Rattle.bus_run.specs.Deliveries.{Serves}
+use Rattle.bus_run.specs.Kept.{places, IsPicked}
+use Rattle.bus_run.specs.Stands.{EndsAfter}
+use Rattle.bus_run.specs.declared.finished.FinishedBus.{FinishedBus}
+use Rattle.bus_tool.specs.Answers.{AnswersRun, Wrote}
+use Rattle.bus_tool.specs.Texts.{text_of}
+use Rattle.bus_tool.specs.declared.text.Text.TheVariants.{Report}
+
+-- where no place is named, none is needed
+pub no-place : (n : ℕ) (plan : PlanData) → places plan ≡ [] → All (λ place. place < n) (places plan)
+no-place n plan none = rw none (All-nil (λ place. place < n))
+
+-- before the first tick
+pub as-begun : (plan : PlanData) (before told : List (Option (List Delivery))) (spare : List ℕ) → Serves plan before [] told spare →
+    Serves plan before (world LAG plan [] [] [] 0) told spare
+unfolding ticks_on
+as-begun plan before told spare serves = serves
+
+-- the answer to a plan that was run for its report
+pub served-after : (held0 held1 : Option (List ℕ)) (sink0 sink1 status : ℕ) (bus : Option FinishedBus)
+    (told0 told1 : List (Option (List Delivery))) (said0 said1 : List (List ℕ)) (plan : PlanData) (before : List (Option (List Delivery))) (spare : List ℕ)
+    (ticks : ℕ) → sink0 ≤ sink1 → EndsAfter plan 0 ticks → IsPicked told0 (places plan) before →
+    Serves plan before (world LAG plan [] [] [] ticks) told1 spare →
+    Wrote held0 held1 sink0 sink1 status bus (text_of Report plan ticks said1) plan ticks →
+    AnswersRun held0 held1 sink0 sink1 status bus told0 told1 said0 said1 Report plan
+served-after held0 held1 sink0 sink1 status bus told0 told1 said0 said1 plan before spare ticks later ends picked serves wrote = record {
+  later = later;
+  answer = inl (ticks, ends, record { before = before; picked = picked; all_before = serves.all_before; all = serves.all; told = serves.tells }, wrote);
+}
+
+-- the report of the log that is found
+pub same-report : (said : List (List ℕ)) (log found : LogData) (plan : PlanData) (held0 held1 : Option (List ℕ)) →
+    log ≡ found → Appends held0 held1 (report_text log plan said) → Appends held0 held1 (report_text found plan said)
+same-report said log found plan held0 held1 same bytes = rw same at bytes
