@@ -34,3 +34,4 @@ pub mod Paused
 pub mod Counting
 pub mod Counted
 pub mod SameAttempt
+pub mod NextAttempt

@@ -1,3 +1,4 @@
 pub mod Stations
 pub mod Happened
 pub mod Tells
+pub mod Runs

@@ -8,9 +8,11 @@
 
 pub mod messages;
 pub mod pauses;
+pub mod runs;
 
 pub use messages::{
     a_message_that_nobody_answers_is_told, a_message_whose_answer_ends_it_is_told,
     a_message_with_a_good_answer_is_told, a_message_without_answer_is_told,
 };
 pub use pauses::{a_pause_changes_no_station, the_first_stations_are_present};
+pub use runs::a_run_stands_after_a_message_that_is_told;
