@@ -35,3 +35,4 @@ pub mod Counting
 pub mod Counted
 pub mod SameAttempt
 pub mod NextAttempt
+pub mod RunPauses

@@ -15,4 +15,7 @@ pub use messages::{
     a_message_with_a_good_answer_is_told, a_message_without_answer_is_told,
 };
 pub use pauses::{a_pause_changes_no_station, the_first_stations_are_present};
-pub use runs::a_run_stands_after_a_message_that_is_told;
+pub use runs::{
+    a_run_stands_after_a_message_that_is_told, a_run_stands_over_a_pause,
+    the_beginning_of_a_run_stands,
+};

@@ -1,13 +1,16 @@
 //! From one message of a run to the next. Laws alone, each the contract of an empty function.
 
-ghost use Rattle.std.specs.Prelude.{◌≡◌, ℕ, List, None};
+ghost use Rattle.std.specs.Prelude.{◌≡◌, ℕ, ◌+◌, true, List, [], None};
 ghost use Rattle.bus_formats.specs.Plans.{StationData, PlanData};
 ghost use Rattle.bus_model.specs.Attempts.{Begun};
 ghost use Rattle.bus_model.specs.Memory.{TimedLoad};
 ghost use Rattle.bus_model.specs.Message.{Message};
-ghost use Rattle.bus_model.specs.Control.{OutsideTake};
-ghost use Rattle.bus_model.specs.Run.{Run, ended_attempt};
-ghost use Rattle.bus_model.specs.World.{Trace};
+ghost use Rattle.bus_model.specs.Control.{OutsideTake, course_after};
+ghost use Rattle.bus_model.specs.Course.{Course};
+ghost use Rattle.bus_model.specs.Starts.{starts};
+ghost use Rattle.bus_model.specs.Run.{Run, first_run, ended_attempt};
+ghost use Rattle.bus_model.specs.World.{Trace, trace};
+ghost use Rattle.bus_law_messages.specs.Settled.{Settled, NoneTakes, NoneStarts};
 ghost use Rattle.bus_law_table.specs.Runs.{RunStands};
 ghost use Rattle.bus_law_table.specs.Tells.{MessageTold};
 
@@ -18,4 +21,20 @@ pub fn a_run_stands_after_a_message_that_is_told()
         (holder : StationData) (run : Run) (begun : Begun) (m : Message) → RunStands k plan loads outside absent before place holder run →
         MessageTold k plan loads outside absent before after place holder begun m → m.ending.passes ≡ None → m.ending.runs_on ≡ None →
         RunStands k plan loads outside absent after place holder (ended_attempt k loads plan.faults run begun m) }
+{}
+
+/// Before the first tick the beginning of a run stands, where the world begins settled and every station is present.
+pub fn the_beginning_of_a_run_stands()
+    ensures { (k : ℕ) (plan : PlanData) (loads : List TimedLoad) (outside : List OutsideTake) (place : ℕ) (holder : StationData) →
+        Settled k plan loads outside [] (trace k plan loads outside [] 0) place holder → starts plan holder ≡ true →
+        RunStands k plan loads outside [] (trace k plan loads outside [] 0) place holder (first_run plan) }
+{}
+
+/// Where a run stands, it stands until its next message starts.
+pub fn a_run_stands_over_a_pause()
+    ensures { (k : ℕ) (plan : PlanData) (loads : List TimedLoad) (outside : List OutsideTake) (absent : List ℕ) (t place : ℕ) (holder : StationData)
+        (run : Run) (n : ℕ) → let before : Trace = trace k plan loads outside absent t in
+        let c : Course = course_after k holder (starts plan holder) loads outside before.shown in
+        RunStands k plan loads outside absent before place holder run → NoneStarts c before.shown n → NoneTakes k plan loads outside place t (t + n) →
+        RunStands k plan loads outside absent (trace k plan loads outside absent (t + n)) place holder run }
 {}
