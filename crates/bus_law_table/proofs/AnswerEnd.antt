@@ -1,5 +1,5 @@
 -- The answer of a message that no fault strikes, its end known: the one that sent it, and the others, keep what they kept.
-use Rattle.std.proofs.Common.{◌≡◌, ◌≢◌, inl, inr, ℕ, suc, ◌+◌, ◌*◌, ◌<◌, ◌≤◌, true, List, [], ◌∷◌, ◌++◌, length, map, Some, None, refl, sym, ap, ◌∙◌, subst, arith, All, false}
+use Rattle.std.proofs.Common.{◌≡◌, ◌≢◌, inl, inr, ℕ, suc, ◌+◌, ◌*◌, ◌<◌, ◌≤◌, true, List, [], ◌∷◌, ◌++◌, length, map, Some, None, refl, sym, ap, ◌∙◌, subst, arith, All, false, length-append}
 use Rattle.std.proofs.lemmas.Bool.{cases_eq}
 use Rattle.std.proofs.lemmas.List.{length-map}
 use Rattle.std.proofs.lemmas.Option.{same_Some}
@@ -11,7 +11,8 @@ use Rattle.bus_base.specs.declared.samples.Pair.{Pair}
 use Rattle.bus_base.specs.declared.samples.Sample.{Sample}
 use Rattle.bus_words.specs.declared.word.Word.{Word}
 use Rattle.bus_line.specs.Past.{Burst, quiet_ticks}
-use Rattle.bus_line.specs.Channels.{on_channel, bursts}
+use Rattle.bus_model.specs.Course.{quiet_from}
+use Rattle.bus_line.specs.Channels.{quiet_both, on_channel, bursts}
 use Rattle.bus_formats.specs.Plans.{StationData, PlanData}
 use Rattle.bus_model.specs.Memory.{TimedLoad}
 use Rattle.bus_model.specs.Message.{Present}
@@ -39,7 +40,7 @@ use Rattle.bus_law_table.proofs.Kept.{closed-unyielded}
 use Rattle.bus_law_table.proofs.Quiet.{IsHere, TakesNone, blocks-none}
 use Rattle.bus_law_table.proofs.Still.{still-told}
 use Rattle.bus_law_table.proofs.Takes.{serving-takes, unheard-takes, unheard-on}
-use Rattle.bus_law_table.proofs.Ticks.{words-run, beside-quiet, words-bursts}
+use Rattle.bus_law_table.proofs.Ticks.{words-run, beside-quiet, words-bursts, words-quiet}
 use Rattle.bus_law_table.proofs.Unstruck.{whole_burst}
 
 module _ (k : ℕ) (plan : PlanData) (loads : List TimedLoad) (outside : List OutsideTake) (absent : List ℕ) (before : Trace) (place : ℕ)
@@ -90,6 +91,14 @@ module _ (k : ℕ) (plan : PlanData) (loads : List TimedLoad) (outside : List Ou
       ∙ ap (λ ss. bursts k past ++ (record { channel = c; burst = record { first = length past; ticks = burst.ticks; slots = ss } } ∷ [])) (unstruck words
       fit).1
       ∙ ap (λ n. bursts k past ++ (record { channel = c; burst = record { first = length past; ticks = n; slots = map (λ word. Some word) words } } ∷ [])) long
+
+  -- both channels are quiet from its end on
+  pub answer-quiet : quiet_from (x ∷ (ticks ++ past)) ≡ length past + 40 * length words
+  answer-quiet =
+      let quiet_since : quiet_both (x ∷ (ticks ++ past)) ≡ suc k =
+      words-quiet k c [] words past x ticks some (unstruck words fit).0 due.rests over.ends.shown quiet in
+      let both : length (ticks ++ past) ≡ length ticks + length past = length-append ticks past in
+      let count = many in omega (arith, quiet_since, both, count)
 
   -- ---- a station
 

@@ -7,7 +7,8 @@ use Rattle.bus_base.specs.declared.samples.Drive.{Drive}
 use Rattle.bus_base.specs.declared.samples.Pair.{Pair}
 use Rattle.bus_words.specs.declared.word.Word.{Word}
 use Rattle.bus_line.specs.Past.{Burst, quiet_ticks, end_of, rest_of}
-use Rattle.bus_line.specs.Channels.{on_channel, bursts}
+use Rattle.bus_model.specs.Course.{quiet_from}
+use Rattle.bus_line.specs.Channels.{quiet_both, on_channel, bursts}
 use Rattle.bus_formats.specs.Forms.{command_words}
 use Rattle.bus_formats.specs.Plans.{StationData, PlanData}
 use Rattle.bus_model.specs.Memory.{TimedLoad}
@@ -29,7 +30,7 @@ use Rattle.bus_law_table.specs.Stations.{ArePresent, HeardNothing}
 use Rattle.bus_law_table.specs.Happened.{burst_found, took_in, blocks_in, blocks_found}
 use Rattle.bus_law_table.proofs.Pairing.{Beside, beside-filter_map, filter_map-map}
 use Rattle.bus_law_table.proofs.AllStations.{IsTold, all-told, leg-blocks, took-none}
-use Rattle.bus_law_table.proofs.Ticks.{words-run, beside-quiet, words-ended, words-bursts}
+use Rattle.bus_law_table.proofs.Ticks.{words-run, beside-quiet, words-ended, words-bursts, words-quiet}
 use Rattle.bus_law_table.proofs.Takes.{unheard-takes, unheard-on}
 use Rattle.bus_law_table.proofs.Kept.{command-kept}
 use Rattle.bus_law_table.proofs.Unstruck.{whole_burst}
@@ -115,6 +116,13 @@ module _ (k : ℕ) (plan : PlanData) (loads : List TimedLoad) (outside : List Ou
         words-bursts k begun.state.channel [] words past x ticks (some-words entry.item.kind) (unstruck words fit).0 settled.rests over.ends.shown quiet
         ∙ ap (λ ss. bursts k past ++ (record { channel = begun.state.channel; burst = record { first = t; ticks = burst.ticks; slots = ss } } ∷ [])) same-slots
         ∙ ap (λ n. bursts k past ++ (record { channel = begun.state.channel; burst = record { first = t; ticks = n; slots = command.slots } } ∷ [])) long
+
+    -- both channels are quiet from its end on
+    pub command-quiet : quiet_from (x ∷ (ticks ++ past)) ≡ burst_end command
+    command-quiet =
+        let quiet_since : quiet_both (x ∷ (ticks ++ past)) ≡ suc k =
+        words-quiet k begun.state.channel [] words past x ticks (some-words entry.item.kind) (unstruck words fit).0 settled.rests over.ends.shown quiet in
+        let tick = ends-now in omega (arith, quiet_since, tick)
 
     -- ---- the stations
 

@@ -1,5 +1,5 @@
 -- A run after one attempt more, of which the world showed what the table says.
-use Rattle.std.proofs.Common.{◌≡◌, ℕ, List, ◌++◌, map, None, refl, sym, ap, ◌∙◌, subst}
+use Rattle.std.proofs.Common.{◌≡◌, ℕ, List, ◌++◌, map, None, sym, ap, ◌∙◌, subst}
 use Rattle.std.proofs.lemmas.List.{reverse-append, reverse-reverse, map-append}
 use Rattle.std.specs.Prelude.{◌&&◌, ◌∷◌, reverse}
 use Rattle.bus_formats.specs.Plans.{StationData, PlanData}
@@ -50,6 +50,7 @@ run-next k plan loads outside absent before after place holder run begun m stand
       retry = ap (λ (c : Course). c.retry) told.closes;
       origin = ap (λ (c : Course). c.origin) told.closes ∙ stands.origin;
       runs_on = runs;
+      quiet = told.quiet;
       blocks = told.blocks ∙ ap (λ bs. bs ++ m.deliveries) stands.blocks ∙ sym (in-order m.deliveries run.deliveries);
       bursts_are = told.bursts
           ∙ ap (λ bs. bs ++ map burst_found m.bursts) stands.bursts_are

@@ -1,4 +1,6 @@
 -- A message with one answer, which ends it, from the moment at which it begins to the one at which it ends.
+use Rattle.bus_model.specs.Course.{quiet_from}
+use Rattle.bus_model.specs.Run.{quiet_after}
 use Rattle.std.proofs.Common.{◌≡◌, ◌≢◌, ℕ, suc, ◌+◌, ◌*◌, ◌<◌, true, false, List, [], ◌∷◌, ◌++◌, length, map, Some, None, sym, ap, ◌∙◌, subst, arith, length-append, All}
 use Rattle.std.proofs.lemmas.List.{append_assoc, length-map}
 use Rattle.std.specs.Prelude.{slice_get}
@@ -134,6 +136,13 @@ module _ (k : ℕ) (plan : PlanData) (loads : List TimedLoad) (outside : List Ou
         ∙ append_assoc (bursts k past) (map burst_found (first ∷ [])) (map burst_found (whole_burst begun.state.channel (length due_trace.shown) words ∷ []))
         ∙ ap (λ s. bursts k past ++ map burst_found (first ∷ whole_burst begun.state.channel s words ∷ [])) w.due
 
+    end-quiet : quiet_from end ≡ quiet_after m.bursts
+    end-quiet =
+        let since = answer.answer-quiet k plan loads outside absent due_trace place holder begun end_tick answerer answering words e below answer_due
+        fit_words some
+        stays_last unheard-due stays_so passes y later sent_last silent_last over_last in
+        let count = slots-long in let start = w.due in omega (arith, since, count, start)
+
     ends-then : length end ≡ suc m.ending.tick
     ends-then =
         let both : length (later ++ due_trace.shown) ≡ length later + length due_trace.shown = length-append later due_trace.shown in
@@ -158,6 +167,7 @@ module _ (k : ℕ) (plan : PlanData) (loads : List TimedLoad) (outside : List Ou
             stations = end-stations;
             blocks = end-blocks;
             bursts = end-bursts;
+            quiet = end-quiet;
             settled = again;
             unheard = unheard-on k holder (starts plan holder) loads outside due_trace.shown (y ∷ later) unheard-due kept_last;
           }

@@ -1,11 +1,11 @@
 -- A run at its beginning, and over a pause.
-use Rattle.std.proofs.Common.{◌≡◌, ℕ, ◌+◌, Bool, true, List, [], ◌∷◌, map, refl, sym, ap, ◌∙◌, subst, arith}
+use Rattle.std.proofs.Common.{◌≡◌, ℕ, ◌+◌, true, List, [], ◌∷◌, map, refl, ap, ◌∙◌, subst, arith}
 use Rattle.std.proofs.lemmas.Bool.Decides.{nat_tests}
 use Rattle.std.specs.Prelude.{◌==◌, filter}
 use Rattle.bus_line.specs.Channels.{bursts}
 use Rattle.bus_formats.specs.Plans.{StationData, PlanData}
 use Rattle.bus_model.specs.Memory.{TimedLoad}
-use Rattle.bus_model.specs.Course.{Course, course}
+use Rattle.bus_model.specs.Course.{Course, course, quiet_from}
 use Rattle.bus_model.specs.Control.{OutsideTake, so_far, course_after}
 use Rattle.bus_model.specs.Run.{Run, first_present, first_run}
 use Rattle.bus_model.specs.Starts.{starts}
@@ -41,6 +41,10 @@ module _ (k : ℕ) (plan : PlanData) (loads : List TimedLoad) (outside : List Ou
   unfolding ticks_on so_far course
   first-origin = refl
 
+  first-quiet : quiet_from begin.shown ≡ 0
+  unfolding ticks_on
+  first-quiet = refl
+
   first-blocks : blocks_found k plan loads outside [] begin.shown ≡ []
   unfolding ticks_on blocks_found
   first-blocks = refl
@@ -61,6 +65,7 @@ module _ (k : ℕ) (plan : PlanData) (loads : List TimedLoad) (outside : List Ou
     retry = first-retry;
     origin = first-origin;
     runs_on = refl;
+    quiet = first-quiet;
     blocks = first-blocks;
     bursts_are = first-bursts;
   }
@@ -82,6 +87,7 @@ run-pauses k plan loads outside absent t place holder run n stands waits stays =
       retry = ap (λ (d : Course). d.retry) p.2 ∙ stands.retry;
       origin = ap (λ (d : Course). d.origin) p.2 ∙ stands.origin;
       runs_on = stands.runs_on;
+      quiet = p.3 ∙ stands.quiet;
       blocks = q.2 ∙ stands.blocks;
       bursts_are = q.3 ∙ stands.bursts_are;
     }

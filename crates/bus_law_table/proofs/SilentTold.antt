@@ -1,5 +1,6 @@
 -- A message to which no terminal answers: the world does what the message table says of it, in the ticks of its command and n quiet ones.
-use Rattle.std.proofs.Common.{◌≡◌, ◌≢◌, inl, inr, ℕ, suc, ◌+◌, ◌*◌, ◌<◌, List, [], ◌∷◌, ◌++◌, length, map, None, sym, ap, ◌∙◌, subst, All, false, slice_get, Some, true}
+use Rattle.bus_law_messages.proofs.Pausing.{from-quiet}
+use Rattle.std.proofs.Common.{◌≡◌, ◌≢◌, inl, inr, ℕ, suc, ◌+◌, ◌*◌, ◌<◌, List, [], ◌∷◌, ◌++◌, length, map, None, sym, ap, ◌∙◌, subst, All, false, slice_get, Some, true, arith}
 use Rattle.bus_base.specs.declared.samples.Drive.{Drive}
 use Rattle.bus_base.specs.declared.samples.Pair.{Pair}
 use Rattle.bus_words.specs.declared.word.Word.{Word}
@@ -168,6 +169,11 @@ module _ (k : ℕ) (plan : PlanData) (loads : List TimedLoad) (outside : List Ou
               ∙ command.command-bursts k plan loads outside absent before place holder entry small settled unheard begins stays fit stations are x ticks sent
               silent
               over;
+          quiet = from-quiet n mid
+              ∙ command.command-quiet k plan loads outside absent before place holder entry small settled unheard begins stays fit stations are x ticks sent
+              silent
+              over
+              ∙ omega arith;
           settled = again;
           unheard = unheard-on k holder (starts plan holder) loads outside mid (quiet_pairs n) unheard-mid kept_then;
         }

@@ -5,6 +5,7 @@ use Rattle.bus_formats.specs.Plans.{StationData, PlanData}
 use Rattle.bus_model.specs.Memory.{TimedLoad}
 use Rattle.bus_model.specs.Starts.{starts}
 use Rattle.bus_model.specs.Control.{OutsideTake, course_after}
+use Rattle.bus_model.specs.Course.{quiet_from}
 use Rattle.bus_model.specs.Run.{Run}
 use Rattle.bus_model.specs.World.{Trace}
 use Rattle.bus_law_messages.specs.Settled.{Settled}
@@ -24,6 +25,8 @@ pub record RunStands (k : ℕ) (plan : PlanData) (loads : List TimedLoad) (outsi
   pub retry : (course_after k holder (starts plan holder) loads outside trace.shown).retry ≡ run.retry
   pub origin : (course_after k holder (starts plan holder) loads outside trace.shown).origin ≡ run.origin
   pub runs_on : run.runs_on ≡ None
+  -- both channels are quiet from the same tick on
+  pub quiet : quiet_from trace.shown ≡ run.quiet_from
   -- the same blocks were taken, and the same bursts shown
   pub blocks : blocks_found k plan loads outside absent trace.shown ≡ reverse run.deliveries
   pub bursts_are : bursts k trace.shown ≡ map burst_found (reverse run.bursts)

@@ -7,9 +7,9 @@ use Rattle.bus_model.specs.Memory.{TimedLoad}
 use Rattle.bus_model.specs.Message.{Present, Message}
 use Rattle.bus_model.specs.Starts.{starts}
 use Rattle.bus_model.specs.Attempts.{Begun}
-use Rattle.bus_model.specs.Course.{close}
+use Rattle.bus_model.specs.Course.{quiet_from, close}
 use Rattle.bus_model.specs.Control.{OutsideTake, course_after}
-use Rattle.bus_model.specs.Run.{with_station, after_attempt}
+use Rattle.bus_model.specs.Run.{with_station, after_attempt, quiet_after}
 use Rattle.bus_model.specs.World.{Trace}
 use Rattle.bus_law_messages.specs.Settled.{Settled}
 use Rattle.bus_law_table.specs.Stations.{ArePresent, HeardNothing}
@@ -35,6 +35,8 @@ pub record MessageTold (k : ℕ) (plan : PlanData) (loads : List TimedLoad) (out
   pub blocks : blocks_found k plan loads outside absent after.shown ≡ blocks_found k plan loads outside absent before.shown ++ m.deliveries
   -- the bursts that were shown meanwhile
   pub bursts : bursts k after.shown ≡ bursts k before.shown ++ map burst_found m.bursts
+  -- since the last of which both channels are quiet
+  pub quiet : quiet_from after.shown ≡ quiet_after m.bursts
   -- and the world is settled again, in the same hands
   pub settled : Settled k plan loads outside absent after place holder
   pub unheard : HeardNothing k holder (starts plan holder) loads outside after.shown
