@@ -36,3 +36,4 @@ pub mod Counted
 pub mod SameAttempt
 pub mod NextAttempt
 pub mod RunPauses
+pub mod NextBegun

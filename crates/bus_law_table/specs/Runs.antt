@@ -3,7 +3,9 @@ use Rattle.std.specs.Prelude.{◌≡◌, ℕ, List, map, reverse, None}
 use Rattle.bus_line.specs.Channels.{bursts}
 use Rattle.bus_formats.specs.Plans.{StationData, PlanData}
 use Rattle.bus_model.specs.Memory.{TimedLoad}
-use Rattle.bus_model.specs.Starts.{starts}
+use Rattle.bus_model.specs.Starts.{Entry, state_of, start_of, starts}
+use Rattle.bus_model.specs.Attempts.{Begun}
+use Rattle.bus_model.specs.Message.{Present}
 use Rattle.bus_model.specs.Control.{OutsideTake, course_after}
 use Rattle.bus_model.specs.Course.{quiet_from}
 use Rattle.bus_model.specs.Run.{Run}
@@ -30,3 +32,11 @@ pub record RunStands (k : ℕ) (plan : PlanData) (loads : List TimedLoad) (outsi
   -- the same blocks were taken, and the same bursts shown
   pub blocks : blocks_found k plan loads outside absent trace.shown ≡ reverse run.deliveries
   pub bursts_are : bursts k trace.shown ≡ map burst_found (reverse run.bursts)
+
+-- the next attempt of a run, at this item of this station
+abbrev pub next_begun : Run → Present → Entry → Begun
+next_begun run station entry = record {
+  entry = entry;
+  state = state_of run.opening run.retry entry station.live;
+  start = start_of run.opening run.retry run.origin entry run.quiet_from;
+}

@@ -1,17 +1,19 @@
 //! From one message of a run to the next. Laws alone, each the contract of an empty function.
 
-ghost use Rattle.std.specs.Prelude.{◌≡◌, ℕ, ◌+◌, true, List, [], None};
+ghost use Rattle.std.specs.Prelude.{◌≡◌, ℕ, ◌+◌, true, List, [], ◌∷◌, Some, None};
 ghost use Rattle.bus_formats.specs.Plans.{StationData, PlanData};
 ghost use Rattle.bus_model.specs.Attempts.{Begun};
 ghost use Rattle.bus_model.specs.Memory.{TimedLoad};
-ghost use Rattle.bus_model.specs.Message.{Message};
+ghost use Rattle.bus_model.specs.Message.{Present, Message};
 ghost use Rattle.bus_model.specs.Control.{OutsideTake, course_after};
-ghost use Rattle.bus_model.specs.Course.{Course};
-ghost use Rattle.bus_model.specs.Starts.{starts};
-ghost use Rattle.bus_model.specs.Run.{Run, first_run, ended_attempt};
+ghost use Rattle.bus_model.specs.Course.{Course, quiet_from};
+ghost use Rattle.bus_model.specs.Starts.{Entry, start_of, starts};
+ghost use Rattle.bus_model.specs.Run.{Run, next_item, first_run, ended_attempt};
 ghost use Rattle.bus_model.specs.World.{Trace, trace};
 ghost use Rattle.bus_law_messages.specs.Settled.{Settled, NoneTakes, NoneStarts};
-ghost use Rattle.bus_law_table.specs.Runs.{RunStands};
+ghost use Rattle.bus_law_table.specs.Runs.{RunStands, next_begun};
+ghost use Rattle.bus_law_table.specs.Stations.{IsNamedApart};
+ghost use Rattle.bus_law_stations.specs.Messages.{message_begun};
 ghost use Rattle.bus_law_table.specs.Tells.{MessageTold};
 
 /// Where a run stands, and the world then does what the table says of one message by which no control passes and of which no answer runs on, the run
@@ -37,4 +39,14 @@ pub fn a_run_stands_over_a_pause()
         let c : Course = course_after k holder (starts plan holder) loads outside before.shown in
         RunStands k plan loads outside absent before place holder run → NoneStarts c before.shown n → NoneTakes k plan loads outside place t (t + n) →
         RunStands k plan loads outside absent (trace k plan loads outside absent (t + n)) place holder run }
+{}
+
+/// Where a run stands, its next attempt is the one that the station in control begins: the same item, on the same channel and turn, in the same tick.
+pub fn the_next_attempt_of_a_run_is_the_one_that_begins()
+    ensures { (k : ℕ) (plan : PlanData) (loads : List TimedLoad) (outside : List OutsideTake) (absent : List ℕ) (trace : Trace) (place : ℕ)
+        (holder : StationData) (run : Run) (entry : Entry) (later : List Entry) →
+        let c : Course = course_after k holder (starts plan holder) loads outside trace.shown in
+        RunStands k plan loads outside absent trace place holder run → IsNamedApart plan place holder → c.left ≡ entry ∷ later →
+        (station : Present) × (next_item run ≡ Some (record { station = station; entry = entry }))
+        × (next_begun run station entry ≡ message_begun c entry (start_of c.opening c.retry c.origin entry (quiet_from trace.shown))) }
 {}
