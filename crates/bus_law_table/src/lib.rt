@@ -1,9 +1,10 @@
 //! The world does what the message table says: the fourth of the laws of the world. Laws alone, each the contract of an empty function, over the world of
 //! any plan, for attempts that no fault names. Proved: from a settled moment to the next a message without an answer, one that nobody answers, and one
 //! whose only answer is good or ends it otherwise, ends as the table says, in its tick; every station keeps what the table says, the blocks that it
-//! takes are taken, and the bursts that it shows are shown, and no others; before the first message the table's stations are those of the world, and
-//! over a pause they stay so; so a run stands at its beginning, over a pause and after a told message, and its next attempt is the one that begins. The table adds blocks that are put up for sending only where a terminal obeys, so its stations are compared with the
-//! loads of all ticks before. Not proved here: control that passes, relays, abandoned messages, and attempts that a fault names.
+//! takes are taken, and the bursts that it shows are shown, and no others. Before the first message the table's stations are those of the world, and
+//! over a pause they stay so. So a run stands at its beginning, over a pause and after a message that is told, and its next attempt is the one that
+//! begins. The table adds blocks that are put up for sending only where a terminal obeys, so its stations are compared with the loads of all ticks
+//! before. Not proved here: control that passes, relays, abandoned messages, and attempts that a fault names.
 #![tactic(auto)]
 
 pub mod messages;
