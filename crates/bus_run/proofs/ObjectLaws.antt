@@ -11,7 +11,7 @@ use Rattle.bus_formats.specs.Plans.{StationData, PlanData}
 use Rattle.bus_formats.specs.declared.log.Delivery.{Delivery}
 use Rattle.bus_subsystem.specs.Deliveries.{Takes}
 use Rattle.bus_run.specs.Amounts.{most_deliveries}
-use Rattle.bus_run.specs.Deliveries.{delivered_of, deliveries, delivering, served, ObjectsOf, TellsMore, Serves, IsHandedOn}
+use Rattle.bus_run.specs.Deliveries.{delivered_of, deliveries, delivering, served, ObjectsOf, TellsMore, Serves, IsHandedOn, AreHandedOut}
 use Rattle.bus_run.specs.StationRows.{heard_at, ObjectsHear}
 use Rattle.bus_run.proofs.DeliveryLaws.{deliveries-next, deliveries-few, tells-next}
 use Rattle.bus_run.proofs.RowLaws.{found-at, not-below, none-below, below-more, below-other}
@@ -170,6 +170,19 @@ objects-handed plan objects before place shown past told told' spare spare' own 
       handed (step-by plan place shown past own (Some d) i s here is found (cases_eq i place)) left
       (λ x before-left. hear.room i p s x found at before-left);
 }
+
+-- the station at the place took a block, or none
+pub objects-out : (plan : PlanData) (objects : List (Option ℕ)) (before : List (Option (List Delivery))) (place : ℕ) (shown : Pair) (past : List Pair)
+    (told told' : List (Option (List Delivery))) (spare spare' : List ℕ) (own : StationData) (object : Option ℕ) (d : Option Delivery) →
+    ObjectsOf plan objects → slice_get plan.stations place ≡ Some own → slice_get objects place ≡ Some object →
+    delivered_of plan (shown ∷ past) own ≡ d → AreHandedOut object d told told' spare spare' →
+    ObjectsHear plan objects before place shown past told spare → ObjectsHear plan objects before (place + 1) shown past told' spare'
+objects-out plan objects before place shown past told told' spare spare' own object None of here object-here is (same, same-spare) hear =
+    subst (λ ts. ObjectsHear plan objects before (place + 1) shown past ts spare') (sym same)
+    (subst (λ ns. ObjectsHear plan objects before (place + 1) shown past told ns) (sym same-spare)
+    (objects-same plan objects before place shown past told spare own here is hear))
+objects-out plan objects before place shown past told told' spare spare' own object (Some d) of here object-here is handed hear =
+    objects-handed plan objects before place shown past told told' spare spare' own object d of here object-here is handed hear
 
 -- the object of the station at the place has room for a delivery
 pub room-left : (plan : PlanData) (objects : List (Option ℕ)) (before : List (Option (List Delivery))) (place : ℕ) (shown : Pair) (past : List Pair)

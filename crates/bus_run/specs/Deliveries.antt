@@ -84,3 +84,8 @@ pub record IsHandedOn (object : Option ℕ) (delivery : Delivery) (told told_aft
   pub takes : (p : ℕ) (old now : Option (List Delivery)) → object ≡ Some p → slice_get told p ≡ Some old → slice_get told_after p ≡ Some now →
       Takes old now delivery
   pub room : (p n m : ℕ) → object ≡ Some p → slice_get spare p ≡ Some n → slice_get spare_after p ≡ Some m → n ≤ m + 1
+
+-- the object at the place took the delivery, if there was one, and else all stay as they are
+abbrev pub AreHandedOut : Option ℕ → Option Delivery → List (Option (List Delivery)) → List (Option (List Delivery)) → List ℕ → List ℕ → Type 0
+AreHandedOut object None told told_after spare spare_after = (told_after ≡ told) × (spare_after ≡ spare)
+AreHandedOut object (Some delivery) told told_after spare spare_after = IsHandedOn object delivery told told_after spare spare_after

@@ -10,6 +10,7 @@ use Rattle.bus_model.specs.Starts.{starts}
 use Rattle.bus_model.specs.WorldLog.{attempts}
 use Rattle.bus_station.specs.StationStands.{StationStands}
 use Rattle.bus_station.specs.Told.{ended_newest}
+use Rattle.bus_station.specs.declared.event.StationEvent.{StationEvent}
 use Rattle.bus_station.specs.declared.role.Role.{Role}
 use Rattle.bus_station.specs.declared.role.Role.TheVariants.{Taking}
 use Rattle.bus_station.specs.declared.station.Station.{Station}
@@ -30,6 +31,10 @@ pub record RowStands (most : ℕ) (plan : PlanData) (row : StationRow) (past : L
 abbrev pub takes : Role → Bool
 takes (Taking first) = true
 takes _ = false
+
+-- what a station noticed of the newest tick, and keeps until it is told
+abbrev pub noticed_by : Station → StationEvent
+noticed_by station = station.event
 
 -- ---- in the midst of a tick: the stations before this place heard it
 

@@ -1,5 +1,5 @@
 //! The stations of a bus, the attempts that they ended, and the deliveries to the objects of their subsystems.
-ghost use Rattle.std.specs.Prelude.{◌≡◌, ◌≤◌, ◌<◌, ◌^◌, ◌+◌, ℕ, suc, if◌then◌else◌, List, [], ◌∷◌, map, length, slice_get, Option, Some, is_some};
+ghost use Rattle.std.specs.Prelude.{◌≡◌, ◌≤◌, ◌<◌, ◌^◌, ◌+◌, ℕ, suc, Bool, if◌then◌else◌, List, [], ◌∷◌, ◌++◌, map, length, slice_get, Option, Some, is_some};
 ghost use Rattle.std.specs.Prelude.{vec_len, vec_capacity};
 ghost use Rattle.bus_base.specs.declared.samples.Pair.{Pair};
 ghost use Rattle.bus_line.specs.declared.cutter.TheConstants.{LAG};
@@ -9,10 +9,12 @@ ghost use Rattle.bus_model.specs.Starts.{starts};
 ghost use Rattle.bus_model.specs.World.{is_done};
 ghost use Rattle.std.specs.List.{list_all};
 ghost use Rattle.bus_station.specs.StationStands.{StationStands};
+ghost use Rattle.bus_station.specs.Told.{attempts_told, delivery_told};
 ghost use Rattle.bus_run.specs.Amounts.{most_deliveries};
-ghost use Rattle.bus_run.specs.Deliveries.{delivering, delivered_of, ObjectsOf, Serves, IsHandedOn};
+ghost use Rattle.bus_run.specs.Data.{IsForData};
+ghost use Rattle.bus_run.specs.Deliveries.{delivering, delivered_of, ObjectsOf, Serves, IsHandedOn, AreHandedOut};
 ghost use Rattle.bus_run.specs.Parts.{StationsStand};
-ghost use Rattle.bus_run.specs.StationRows.{RowStands, RowHears, ObjectsHear, takes};
+ghost use Rattle.bus_run.specs.StationRows.{RowStands, RowHears, ObjectsHear, takes, noticed_by};
 
 use crate::objects::deliver;
 use bus_base::{Pair, Tick};
@@ -98,17 +100,11 @@ impl StationRow {
         ensures objects { self.new.objects ≡ self.old.objects }
         ensures delivering { self.new.delivering ≡ self.old.delivering }
     {
-        match self.stations[place].hear(now, shown) {
-            StationEvent::Nothing => false,
-            StationEvent::Ended(attempt) => {
-                self.attempts.push_reserved(attempt);
-                false
-            }
-            StationEvent::Took(delivery) => {
-                hand_on(subsystems, self.objects[place], delivery);
-                true
-            }
+        let station = &mut self.stations[place];
+        if !station.notices(now, shown) {
+            return false;
         }
+        hand_out(station, &mut self.attempts, self.objects[place], subsystems)
     }
 
     /// Whether every station is idle and none is taking control.
@@ -146,6 +142,42 @@ impl StationRow {
         ensures { result ≡ self.now.delivering }
     {
         self.delivering
+    }
+}
+
+// What a station noticed goes where it is kept: an attempt to the list, a block to the object at the place, if there is one. It answers whether it
+// was a block. It is a call of its own, since what is told is large, and in most ticks there is nothing.
+#[inline(never)]
+fn hand_out(
+    station: &mut Station,
+    attempts: &mut Vec<Attempt>,
+    object: Option<usize>,
+    subsystems: &mut Vec<Box<dyn Subsystem>>,
+) -> bool
+    requires room { vec_len attempts.old < vec_capacity attempts.old }
+    requires data { IsForData (delivery_told (noticed_by station.old)) }
+    requires place { (d : Delivery) (p : ℕ) → delivery_told (noticed_by station.old) ≡ Some d → object ≡ Some p → p < length subsystems.old.items }
+    requires space { (d : Delivery) (p : ℕ) (b : _) → delivery_told (noticed_by station.old) ≡ Some d → object ≡ Some p →
+        slice_get subsystems.old.items p ≡ Some b → 0 < spare b }
+    ensures stands { (plan : StationData) (starts : Bool) (past : List Pair) → StationStands LAG plan starts [] [] station.old past →
+        StationStands LAG plan starts [] [] station.new past }
+    ensures attempts { attempts.new.items ≡ attempts.old.items ++ attempts_told (noticed_by station.old) }
+    ensures len { vec_len attempts.new ≤ vec_len attempts.old + 1 }
+    ensures capacity { vec_capacity attempts.new ≡ vec_capacity attempts.old }
+    ensures took { result ≡ is_some (delivery_told (noticed_by station.old)) }
+    ensures objects { AreHandedOut object (delivery_told (noticed_by station.old)) (map (λ b. told b) subsystems.old.items) (map (λ b. told b) subsystems.new.items)
+        (map (λ b. spare b) subsystems.old.items) (map (λ b. spare b) subsystems.new.items) }
+{
+    match station.tell() {
+        StationEvent::Nothing => false,
+        StationEvent::Ended(attempt) => {
+            attempts.push_reserved(attempt);
+            false
+        }
+        StationEvent::Took(delivery) => {
+            hand_on(subsystems, object, delivery);
+            true
+        }
     }
 }
 
