@@ -74,22 +74,30 @@ const CAPTURE: &str = "1553 capture 1
 ........................................................................................................................
 ";
 
-// An object for which there is never memory.
+// An object with room for so many deliveries, for which there is never more memory.
 #[derive(Drop)]
-struct Roomless;
+struct Roomless {
+    space: usize,
+}
 
 impl Subsystem for Roomless {
     ghost told = { λ _. None };
 
-    ghost spare = { λ _. 0 };
+    ghost spare = { λ object. object.space };
 
     ghost said = { λ _. [] };
 
     fn reserve(&mut self, n: usize) -> Result<(), AllocError> {
-        if n == 0 { Ok(()) } else { Err(AllocError) }
+        if n <= self.space {
+            Ok(())
+        } else {
+            Err(AllocError)
+        }
     }
 
-    fn take(&mut self, _delivery: Delivery) {}
+    fn take(&mut self, _delivery: Delivery) {
+        self.space -= 1;
+    }
 
     fn line(&self, _text: &mut LineText) {}
 }
@@ -137,7 +145,7 @@ fn run_over(
     let mut subsystems: Vec<Box<dyn Subsystem>> = Vec::new(rt.alloc());
     for address in 0..31 {
         if address == 5 && !has_room {
-            subsystems.push(Box::new(rt.alloc(), Roomless)?)?;
+            subsystems.push(Box::new(rt.alloc(), Roomless { space: 0 })?)?;
         } else {
             subsystems.push(Box::new(rt.alloc(), Recorder::new(rt.alloc()))?)?;
         }
