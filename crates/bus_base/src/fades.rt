@@ -1,7 +1,8 @@
+//! Fade sets: the samples of a word that damage leaves quiet. Judged by `specs/Fades.antt`.
 ghost use Rattle.std.specs.Prelude.{◌≡◌, MatchResult};
 ghost use Rattle.bus_base.specs.Positions.{set_of, takes};
 
-use crate::positions::{first_outside, first_unordered, flags};
+use crate::positions::{PositionSet, first_outside, first_unordered};
 use std::marker::Model;
 
 /// Why a list of positions is no fade set. A place counts from 0.
@@ -24,7 +25,7 @@ pub enum FadeRefusal {
 /// enough to end its burst.
 #[derive(Clone, Copy, Debug, PartialEq, Eq)]
 pub struct FadeSet {
-    fades: [bool; 40],
+    positions: PositionSet,
 }
 
 impl Model for FadeSet {
@@ -32,9 +33,9 @@ impl Model for FadeSet {
 
     ghost Value = { List Bool };
 
-    ghost view = { λ s. s.fades };
+    ghost view = { λ s. s.positions };
 
-    ghost inverse = { λ v. record { fades = v } };
+    ghost inverse = { λ v. record { positions = v } };
 }
 
 impl FadeSet {
@@ -58,14 +59,15 @@ impl FadeSet {
         if positions.len() > 3 {
             return Err(FadeRefusal::Count);
         }
-        let fades = flags(positions);
-        Ok(FadeSet { fades })
+        Ok(FadeSet {
+            positions: PositionSet::of(positions),
+        })
     }
 
     /// Whether the position, counted in samples from 0, is in the set. None above 39 is.
     pub fn has(&self, position: u8) -> bool
         ensures { result ≡ takes self.now position }
     {
-        (position as usize) < self.fades.len() && self.fades[position as usize]
+        self.positions.has(position)
     }
 }

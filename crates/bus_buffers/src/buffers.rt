@@ -1,3 +1,4 @@
+//! The data blocks of a terminal, one for each subaddress and direction, each replaced whole. Judged by `specs/Blocks.antt`.
 ghost use Rattle.std.specs.Prelude.{◌≡◌, ℕ, ◌<◌, ◌≤◌, List, [], ◌∷◌, ◌++◌, length, set, take};
 ghost use Rattle.bus_buffers.specs.Blocks.{Blocks, all_empty, received_in, sent_from};
 

@@ -7,7 +7,8 @@ use Rattle.std.proofs.Math.Seq.{take-add}
 use Rattle.bus_base.specs.declared.samples.Sample.TheVariants.{Quiet}
 use Rattle.bus_base.specs.declared.samples.Pair.{Pair}
 use Rattle.bus_capture.specs.Readings.{place_after, ticks_in, text_limit}
-use Rattle.bus_capture.specs.Quiet.{quiet_pairs, ReadsTicks, ReadsQuiet, IsStep, step_in, run_of, is_stop, are_stops, four_quiet}
+use Rattle.bus_base.specs.Samples.{quiet_pairs}
+use Rattle.bus_capture.specs.Quiet.{ReadsTicks, ReadsQuiet, IsStep, step_in, run_of, is_stop, are_stops, four_quiet}
 use Rattle.bus_capture.specs.declared.reader.QuietRun.{QuietRun}
 use Rattle.bus_capture.specs.declared.reader.Place.TheVariants.{Between}
 use Rattle.bus_capture.specs.Reader.{ReaderStands}

@@ -1,5 +1,6 @@
 -- Ticks at the front of a piece of text: what a reader may take at once.
 use Rattle.std.specs.Prelude.{◌≡◌, ℕ, zero, suc, ◌+◌, ◌≤◌, ◌==◌, ◌&&◌, ◌||◌, Bool, true, false, if◌then◌else◌, List, [], ◌∷◌, ◌++◌, length, reverse, take, Option, Some, None}
+use Rattle.bus_base.specs.Samples.{quiet_pairs}
 use Rattle.bus_base.specs.declared.samples.Pair.{Pair}
 use Rattle.bus_base.specs.declared.samples.Sample.TheVariants.{Plus, Minus, Quiet}
 use Rattle.bus_base.specs.declared.samples.Sample.{Sample}
@@ -7,11 +8,6 @@ use Rattle.bus_capture.specs.Readings.{place_after, ticks_in, text_limit, sample
 use Rattle.bus_capture.specs.declared.reader.Place.TheVariants.{Between}
 use Rattle.bus_capture.specs.declared.reader.FrontRun.{FrontRun}
 use Rattle.bus_capture.specs.declared.reader.QuietRun.{QuietRun}
-
--- so many ticks in which both channels are quiet
-abbrev pub quiet_pairs : ℕ → List Pair
-quiet_pairs zero = []
-quiet_pairs (suc n) = record { a = Quiet; b = Quiet } ∷ quiet_pairs n
 
 -- these bytes, in their order, are these ticks, the newest first, and line feeds between them, wherever they follow whole ticks in a text
 abbrev pub ReadsTicks : List ℕ → List Pair → Type 0

@@ -16,7 +16,8 @@ ghost use Rattle.bus_capture.specs.Readings.{
   ticks_in,
 };
 ghost use Rattle.bus_capture.specs.Reader.{ReaderStands, after_byte};
-ghost use Rattle.bus_capture.specs.Quiet.{quiet_pairs, ReadsQuiet, IsStep, IsFront, step_in, are_stops, is_sample, are_samples, level, pairs_in, four_quiet, tick_front};
+ghost use Rattle.bus_base.specs.Samples.{quiet_pairs};
+ghost use Rattle.bus_capture.specs.Quiet.{ReadsQuiet, IsStep, IsFront, step_in, are_stops, is_sample, are_samples, level, pairs_in, four_quiet, tick_front};
 ghost use Rattle.bus_capture.specs.Readings.{text_limit};
 ghost use Rattle.bus_capture.specs.declared.reader.Place.TheVariants.{Between};
 ghost use Rattle.std.specs.Prelude.{IsTrue, true};

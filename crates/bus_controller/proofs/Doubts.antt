@@ -8,7 +8,7 @@ use Rattle.bus_base.specs.declared.samples.Part.TheVariants.{First}
 use Rattle.bus_line.specs.Channels.{quiet_both}
 use Rattle.bus_line.proofs.EndLaws.{end_since-stays}
 use Rattle.bus_formats.specs.declared.form.Outcome.TheVariants.{BadReply, Yielded}
-use Rattle.bus_model.specs.Waits.{doubting}
+use Rattle.bus_formats.specs.Times.{doubting}
 use Rattle.bus_model.specs.Attempts.{Begun, without_words}
 use Rattle.bus_model.specs.Controller.{ending_now, doubt_ending}
 use Rattle.bus_model.specs.Course.{Course}

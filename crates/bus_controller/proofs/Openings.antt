@@ -6,7 +6,7 @@ use Rattle.bus_formats.specs.declared.form.Outcome.{Outcome}
 use Rattle.bus_formats.specs.declared.form.Outcome.TheVariants as outcomes
 use Rattle.bus_retry.specs.declared.RetryState.{RetryState}
 use Rattle.bus_model.specs.Starts.{Entry, Origin, Opening, usual, superseding, taking, planned_start, start_of, state_of, opening_after}
-use Rattle.bus_model.specs.Waits.{settling_quiet}
+use Rattle.bus_formats.specs.Times.{settling_quiet}
 use Rattle.bus_formats.specs.Times.{dead_ticks}
 use Rattle.bus_controller.specs.Queue.{due_of}
 use Rattle.bus_controller.specs.Agendas.{AgendaData, is_due_by, state_by, quiet_needed, earliest, opens_after}

@@ -8,7 +8,7 @@ use Rattle.bus_base.specs.declared.samples.Pair.{Pair}
 use Rattle.bus_line.specs.Channels.{on_channel, quiet_both, both_quiet}
 use Rattle.bus_line.proofs.EndLaws.{end_since-early}
 use Rattle.bus_formats.specs.Accepted.{HasItemRanges}
-use Rattle.bus_model.specs.Waits.{settling_quiet}
+use Rattle.bus_formats.specs.Times.{settling_quiet}
 use Rattle.bus_model.specs.Starts.{Entry, Opening, usual, superseding, taking, start_of, state_of}
 use Rattle.bus_model.specs.Attempts.{Begun}
 use Rattle.bus_model.specs.Course.{Course, runs_next, quiet_from}

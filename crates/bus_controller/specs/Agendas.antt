@@ -8,7 +8,7 @@ use Rattle.bus_formats.specs.declared.form.Outcome.TheVariants.{Abandoned}
 use Rattle.bus_retry.specs.Retries.{next_of, live_after}
 use Rattle.bus_retry.specs.declared.RetryState.{RetryState}
 use Rattle.bus_retry.specs.declared.Choice.{Choice}
-use Rattle.bus_model.specs.Waits.{settling_quiet}
+use Rattle.bus_formats.specs.Times.{settling_quiet}
 use Rattle.bus_model.specs.Starts.{Entry, Origin, needed_quiet, turn_of, left_after, retry_by}
 use Rattle.bus_model.specs.Attempts.{Begun}
 use Rattle.bus_controller.specs.Queue.{DueData, due_of}

@@ -16,7 +16,7 @@ use Rattle.bus_formats.specs.declared.form.Shape.{Shape}
 use Rattle.bus_formats.specs.declared.form.Outcome.TheVariants.{BadReply}
 use Rattle.bus_formats.specs.declared.form.Reading.TheVariants.{Good, Ends}
 use Rattle.bus_formats.specs.declared.log.Attempt.{Attempt}
-use Rattle.bus_model.specs.Waits.{settling_quiet}
+use Rattle.bus_formats.specs.Times.{settling_quiet}
 use Rattle.bus_model.specs.Starts.{Entry, Opening, usual, superseding, taking, start_of}
 use Rattle.bus_model.specs.Attempts.{Begun, is_offer}
 use Rattle.bus_model.specs.Controller.{reply, whole}

@@ -18,7 +18,7 @@ use Rattle.bus_formats.specs.declared.form.Outcome.TheVariants as outcomes
 use Rattle.bus_formats.specs.declared.form.Reading.{Reading}
 use Rattle.bus_formats.specs.declared.form.Reading.TheVariants as readings
 use Rattle.bus_retry.specs.Retries.{next_of}
-use Rattle.bus_model.specs.Waits.{settling_quiet, doubting}
+use Rattle.bus_formats.specs.Times.{settling_quiet, doubting}
 use Rattle.bus_model.specs.Starts.{Entry, finishes, planned_at}
 use Rattle.bus_model.specs.Attempts.{Begun, Ended, without_words, recorded, is_offer, kept_words}
 use Rattle.bus_model.specs.Course.{gives}

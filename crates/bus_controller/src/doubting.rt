@@ -9,10 +9,7 @@ use crate::close::close;
 use crate::moment::Moment;
 use crate::states::{ControllerNext, ControllerState};
 use bus_base::{Part, Tick};
-use bus_formats::Outcome;
-
-/// Both channels are quiet so many ticks from the end of a bad answer to an offer on, where no station took control.
-pub const DOUBTING: u64 = 80;
+use bus_formats::{DOUBTING, Outcome};
 
 /// A bad answer to an offer ended, and both channels were quiet since.
 #[derive(Drop)]

@@ -4,10 +4,7 @@ ghost use Rattle.bus_controller.specs.Agendas.{opens_after};
 ghost use Rattle.bus_controller.specs.Agendas as spec;
 
 use bus_base::{Channel, Tick};
-use bus_formats::{LEAST_QUIET, Outcome};
-
-/// After a message that didn't go well both channels are quiet so many ticks before the next: longer than any answer can still be awaited.
-pub const SETTLING_QUIET: u16 = 40;
+use bus_formats::{LEAST_QUIET, Outcome, SETTLING_QUIET};
 
 /// What the next attempt waits for.
 #[derive(Clone, Copy)]

@@ -6,8 +6,9 @@ ghost use Rattle.bus_controller.specs.declared.states.ControllerState.TheVariant
 use crate::agenda::Agenda;
 use crate::holding::wait;
 use crate::moment::Moment;
-use crate::opening::{Opening, SETTLING_QUIET};
+use crate::opening::Opening;
 use crate::states::ControllerNext;
+use bus_formats::SETTLING_QUIET;
 
 /// No message is open, and both channels were quiet for fewer than 40 ticks.
 #[derive(Drop)]

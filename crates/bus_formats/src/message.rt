@@ -1,7 +1,10 @@
 //! The ten message formats: what the controller sends, and which answers it expects (MIL-STD-1553B 4.3.3.6).
 //!
 //! Judged by `specs/Forms.antt`.
-ghost use Rattle.std.specs.Prelude.{◌≡◌, ◌+◌, ◌≤◌, ◌++◌, length, map, None};
+ghost use Rattle.std.specs.Prelude.{◌≡◌, ◌+◌, ◌%◌, ◌≤◌, ◌<◌, ◌++◌, length, map, filter_map, option_to_list, None};
+ghost use Rattle.bus_words.specs.Fields.{command_bits};
+ghost use Rattle.bus_formats.specs.Readings.{command_with};
+ghost use Rattle.bus_formats.specs.declared.plan.Kind.{Kind as KindData};
 ghost use Rattle.bus_formats.specs.Forms as spec;
 ghost use Rattle.bus_formats.specs.Accepted.{HasKindRanges};
 
@@ -44,40 +47,98 @@ fn mode_form(broadcast: bool, carries: Carries, word: Option<u16>) -> Option<For
     }
 }
 
+/// The command word of a message, the first of a relay's two: that of its receiver.
+pub fn first_command(kind: &Kind) -> Command
+    requires { HasKindRanges kind.now }
+    ensures { result ≡ spec.first_command kind.now }
+{
+    match kind {
+        Kind::Receive { to, sub, words } => {
+            data_command(*to, false, *sub, words.words().len() as u8)
+        }
+        Kind::Transmit { from, sub, count } => data_command(*from, true, *sub, *count),
+        Kind::Relay {
+            to,
+            to_sub,
+            count,
+            ..
+        } => data_command(*to, false, *to_sub, *count),
+        Kind::Mode {
+            to,
+            mode_sub,
+            transmit,
+            code,
+            ..
+        } => Command::make(*to, *transmit, *mode_sub, *code),
+    }
+}
+
+/// The second command word of a relay: that of its transmitter.
+pub fn second_command(kind: &Kind) -> Option<Command>
+    requires { HasKindRanges kind.now }
+    ensures { result ≡ spec.second_command kind.now }
+{
+    match kind {
+        Kind::Relay {
+            from,
+            from_sub,
+            count,
+            ..
+        } => Some(data_command(*from, true, *from_sub, *count)),
+        _ => None,
+    }
+}
+
+// A command for that many words, of which 32 are written as 0.
+fn data_command(address: u8, transmit: bool, sub: u8, count: u8) -> Command
+    requires address { address ≤ 31 }
+    requires sub { sub ≤ 31 }
+    ensures { result ≡ command_bits address transmit sub (count % 32) }
+{
+    Command::make(address, transmit, sub, count % 32)
+}
+
+/// Whether the second command word makes a relay of the first: it tells one terminal to transmit as many words as the first tells the
+/// others to receive (4.3.3.6.3).
+pub fn is_second_command(command: Command, second: Command) -> bool
+    ensures { result ≡ spec.is_second_command command second }
+{
+    second.transmit()
+        && !second.is_mode()
+        && second.field() == command.field()
+        && !second.is_broadcast()
+}
+
 /// Makes `burst` the words that the controller sends for the message, in order.
 pub fn command_burst(kind: &Kind, burst: &mut ArrayVec<Word, 40>)
     requires { HasKindRanges kind.now }
     ensures { burst.new.items ≡ spec.command_words kind.now }
 {
     burst.clear();
+    burst.push(command_word(first_command(kind)));
     match kind {
-        Kind::Receive { to, sub, words } => {
-            burst.push(data_command(*to, false, *sub, words.words().len() as u8));
-            append_data(burst, words.words());
-        }
-        Kind::Transmit { from, sub, count } => burst.push(data_command(*from, true, *sub, *count)),
-        Kind::Relay {
-            from,
-            from_sub,
-            to,
-            to_sub,
-            count,
-        } => {
-            burst.push(data_command(*to, false, *to_sub, *count));
-            burst.push(data_command(*from, true, *from_sub, *count));
-        }
-        Kind::Mode {
-            to,
-            mode_sub,
-            transmit,
-            code,
-            word,
-        } => {
-            burst.push(command_word(Command::make(*to, *transmit, *mode_sub, *code)));
-            if let Some(word) = word {
-                burst.push(data_word(*word));
-            }
-        }
+        Kind::Receive { words, .. } => append_data(burst, words.words()),
+        Kind::Relay { .. } => append_command(burst, second_command(kind)),
+        Kind::Mode { word, .. } => append_datum(burst, *word),
+        Kind::Transmit { .. } => {}
+    }
+}
+
+fn append_command(burst: &mut ArrayVec<Word, 40>, command: Option<Command>)
+    requires { length burst.old.items < 40 }
+    ensures { burst.new.items ≡ burst.old.items ++ map spec.command_word (option_to_list command) }
+{
+    if let Some(command) = command {
+        burst.push(command_word(command));
+    }
+}
+
+fn append_datum(burst: &mut ArrayVec<Word, 40>, word: Option<u16>)
+    requires { length burst.old.items < 40 }
+    ensures { burst.new.items ≡ burst.old.items ++ map spec.data_word (option_to_list word) }
+{
+    if let Some(word) = word {
+        burst.push(data_word(word));
     }
 }
 
@@ -88,14 +149,6 @@ fn append_data(burst: &mut ArrayVec<Word, 40>, words: &[u16])
     for word in words {
         burst.push(data_word(*word));
     }
-}
-
-fn data_command(address: u8, transmit: bool, sub: u8, count: u8) -> Word
-    requires address { address ≤ 31 }
-    requires sub { sub ≤ 31 }
-    ensures { result ≡ spec.data_command address transmit sub count }
-{
-    command_word(Command::make(address, transmit, sub, count % 32))
 }
 
 fn command_word(command: Command) -> Word
@@ -115,6 +168,11 @@ fn data_word(bits: u16) -> Word
         bits,
     }
 }
+
+/// The command words of a message are those of the words sent that have command sync.
+pub fn commands_are_the_words_with_command_sync()
+    ensures { (kind : KindData) → filter_map (λ w. command_with w.sync w.bits) (spec.command_words kind) ≡ spec.commands_of kind }
+{}
 
 /// The answers that the controller expects: a broadcast is not answered, and a relay has an answer of each terminal.
 pub fn answers(kind: &Kind) -> Answers

@@ -1,14 +1,14 @@
 //! How the controller reads an answer (MIL-STD-1553B 4.3.3.5.3, 4.4.3.5).
 //!
 //! Judged by `specs/Readings.antt`. What ends a message at which status is the project's own.
-ghost use Rattle.std.specs.Prelude.{◌≡◌, is_some};
+ghost use Rattle.std.specs.Prelude.{◌≡◌, ◌≤◌, is_some};
 ghost use Rattle.std.specs.List.{list_all};
 ghost use Rattle.bus_formats.specs.Readings as spec;
 ghost use Rattle.bus_formats.specs.Forms.{answers_of};
 
 use crate::code::{DYNAMIC_BUS_CONTROL, TRANSMIT_LAST_COMMAND, TRANSMIT_STATUS_WORD};
 use crate::message::answers;
-use crate::{Kind, Outcome, Reading, Shape};
+use crate::{Block, Kind, Outcome, Reading, Shape};
 use bus_base::Part;
 use bus_words::{Status, Sync, Word};
 
@@ -155,6 +155,21 @@ fn status_in(address: u8, slot: Option<Word>) -> Option<Status>
     } else {
         None
     }
+}
+
+/// The data words in the slots: exactly that many, at most 32, and each valid.
+pub fn data_in(count: u8, slots: &[Option<Word>]) -> Option<Block>
+    requires { count ≤ 32 }
+    ensures { result ≡ spec.data_in count slots.now }
+{
+    if slots.len() != usize::from(count) {
+        return None;
+    }
+    let mut block = Block::new();
+    for slot in slots {
+        block.push(datum_in(*slot)?);
+    }
+    Some(block)
 }
 
 // Whether the slots hold exactly so many data words, each valid.

@@ -16,7 +16,7 @@ use Rattle.bus_model.specs.Control.{taking_from, course_after}
 use Rattle.bus_model.specs.World.{is_done, run_is_over}
 use Rattle.bus_law_line.specs.Shown.{struck_of, struck_spelling}
 use Rattle.bus_law_line.proofs.WordSlots.{heard-unstruck}
-use Rattle.bus_law_stations.specs.Silence.{quiet_pairs}
+use Rattle.bus_base.specs.Samples.{quiet_pairs}
 use Rattle.bus_law_messages.specs.FirstPath.{block_message, receiving_station, block_plan, block_world}
 use Rattle.bus_law_messages.proofs.BlockStarts.{course_at}
 use Rattle.bus_law_messages.proofs.BlockRuns.{status, shown-a, shown-b, settled-after, same-after, idle-end, none-left, opening-end}

@@ -25,7 +25,7 @@ use Rattle.bus_model.specs.Terminal.{took_now}
 use Rattle.bus_model.specs.Starts.{Entry}
 use Rattle.bus_model.specs.World.{Trace}
 use Rattle.bus_law_line.specs.Shown.{struck_spelling, slots_shown}
-use Rattle.bus_law_stations.specs.Silence.{quiet_pairs}
+use Rattle.bus_base.specs.Samples.{quiet_pairs}
 use Rattle.bus_law_stations.specs.Messages.{message_begun, with_running}
 use Rattle.bus_law_messages.specs.Settled.{Settled, NoneStarts}
 use Rattle.bus_law_messages.specs.Ends.{burst_sent, CommandOver}

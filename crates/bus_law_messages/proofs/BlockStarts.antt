@@ -18,7 +18,7 @@ use Rattle.bus_model.specs.Attempts.{Begun}
 use Rattle.bus_model.specs.Course.{Course, course, at_first, quiet_from}
 use Rattle.bus_model.specs.Control.{so_far, course_after, hearing_after}
 use Rattle.bus_model.specs.World.{ticks_on}
-use Rattle.bus_law_stations.specs.Silence.{quiet_pairs}
+use Rattle.bus_base.specs.Samples.{quiet_pairs}
 use Rattle.bus_law_stations.specs.Messages.{BeginsMessage, message_begun}
 use Rattle.bus_law_messages.specs.Settled.{Settled, NoneTakes, NoneStarts}
 use Rattle.bus_law_messages.specs.Ends.{burst_sent}

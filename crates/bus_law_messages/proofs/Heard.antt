@@ -126,7 +126,7 @@ module _ (k : ℕ) (t : TerminalData) (loads : List TimedLoad) (memory : Memory)
       (first-of s.channel) (listening-ready k t s c heard frees).answer
 
   pub end-obeyed : (order : Order) → last_order t.address burst.slots ≡ Some order →
-      let o : Obeyed = obeyed_in t loads (length (ticks ++ heard)) s c order (rest_of burst) now.may in
+      let o : Obeyed = obeyed_in t loads (length (ticks ++ heard)) s c order (rest_of burst) now.has_items in
       (slot_end : ℕ) × (length heard ≤ slot_end) × (slot_end < length (ticks ++ heard))
       × (standing k t loads memory (now ∷ (ticks ++ heard)) ≡ after_command s c (end_of burst) slot_end o)
       × (took_now k t loads record { memory = memory; ticks = now ∷ (ticks ++ heard) } ≡ o.taken)
@@ -166,7 +166,7 @@ module _ (k : ℕ) (t : TerminalData) (loads : List TimedLoad) (memory : Memory)
 
   -- what the answer that it owes waits for
   pub end-due : (order : Order) → last_order t.address burst.slots ≡ Some order → (mays : List Bool) →
-      let o : Obeyed = obeyed_in t loads (length (ticks ++ heard)) s c order (rest_of burst) now.may in
+      let o : Obeyed = obeyed_in t loads (length (ticks ++ heard)) s c order (rest_of burst) now.has_items in
       let later : List Moment = quiet_moments mays ++ (now ∷ (ticks ++ heard)) in
       length later ≡ due_after t (end_of burst) → is_owed o.duty ≡ true →
       BeginsAnswer k t (standing k t loads memory later) c later × ((standing k t loads memory later).duty ≡ o.duty)

@@ -10,7 +10,7 @@ use Rattle.bus_base.specs.declared.samples.Drive.TheVariants.{Silent}
 use Rattle.bus_base.specs.declared.samples.Pair.{Pair}
 use Rattle.bus_line.specs.Past.{quiet_ticks, runs, end_since}
 use Rattle.bus_formats.specs.Plans.{TerminalData, StationData}
-use Rattle.bus_model.specs.Waits.{relay_wait}
+use Rattle.bus_formats.specs.Times.{relay_wait}
 use Rattle.bus_model.specs.Memory.{TimedLoad}
 use Rattle.bus_model.specs.Orders.{due_after}
 use Rattle.bus_model.specs.Hearing.{Moment, Hearing, heard_on}
@@ -18,7 +18,8 @@ use Rattle.bus_model.specs.Standing.{Standing, mark_on, ignored_from, is_promise
 use Rattle.bus_model.specs.Terminal.{standing_after}
 use Rattle.bus_model.specs.Course.{Course}
 use Rattle.bus_model.specs.Control.{OutsideTake, StationSoFar, outside_takes, hearing_after, drives_next}
-use Rattle.bus_law_stations.specs.Silence.{quiet_pairs, quiet_moments, StationRests}
+use Rattle.bus_base.specs.Samples.{quiet_pairs}
+use Rattle.bus_law_stations.specs.Silence.{quiet_moments, StationRests}
 use Rattle.bus_law_stations.proofs.LegTicks.{heeded-later}
 use Rattle.bus_law_stations.proofs.Resting.{heard-quiet, rests-quiet}
 use Rattle.bus_law_stations.proofs.StillStation.{still-so-far, still-after, still-terminal, still-quiet}

@@ -19,7 +19,8 @@ use Rattle.bus_model.specs.Standing.{Standing, mark_on, ignored_from, is_promise
 use Rattle.bus_model.specs.Terminal.{standing, standing_after}
 use Rattle.bus_model.specs.Course.{Course}
 use Rattle.bus_model.specs.Control.{OutsideTake, StationSoFar, outside_takes, course_after, hearing_after, drives_next}
-use Rattle.bus_law_stations.specs.Silence.{quiet_pairs, quiet_moments, StationRests}
+use Rattle.bus_base.specs.Samples.{quiet_pairs}
+use Rattle.bus_law_stations.specs.Silence.{quiet_moments, StationRests}
 use Rattle.bus_law_stations.specs.Legs.{BeginsAnswer}
 use Rattle.bus_law_stations.specs.Turns.{Serves}
 use Rattle.bus_law_stations.proofs.LegTicks.{heeded-later}

@@ -27,7 +27,8 @@ use Rattle.bus_model.specs.Course.{Course}
 use Rattle.bus_model.specs.Control.{OutsideTake, course_after, hearing_after, drives_next}
 use Rattle.bus_model.specs.World.{Trace, is_present, ticks_on}
 use Rattle.bus_law_line.specs.Senders.{LeftAlone}
-use Rattle.bus_law_stations.specs.Silence.{quiet_pairs, AwaitsFirst}
+use Rattle.bus_base.specs.Samples.{quiet_pairs}
+use Rattle.bus_law_stations.specs.Silence.{AwaitsFirst}
 use Rattle.bus_law_stations.specs.Legs.{obeyed_in, after_command}
 use Rattle.bus_law_stations.specs.Turns.{moments_of}
 use Rattle.bus_law_stations.proofs.LegTicks.{heard-append, heeded-later}

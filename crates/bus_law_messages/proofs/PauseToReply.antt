@@ -22,7 +22,8 @@ use Rattle.bus_model.specs.Control.{OutsideTake, yielded_in, outside_takes, cour
 use Rattle.bus_model.specs.World.{Trace, is_present, drives_after, ticks_on}
 use Rattle.bus_law_line.specs.Senders.{IsSpent, LeftAlone}
 use Rattle.bus_law_line.proofs.Sent.{left-spent}
-use Rattle.bus_law_stations.specs.Silence.{quiet_pairs, NothingStarts}
+use Rattle.bus_base.specs.Samples.{quiet_pairs}
+use Rattle.bus_law_stations.specs.Silence.{NothingStarts}
 use Rattle.bus_law_stations.proofs.Resting.{quiet-on, rests-quiet}
 use Rattle.bus_law_stations.proofs.StillController.{Awaits, awaits-stays, pairs-long}
 use Rattle.bus_law_messages.specs.Settled.{NoneTakes}

@@ -25,7 +25,8 @@ use Rattle.bus_model.specs.Control.{OutsideTake, StationSoFar, yielded_in, outsi
 use Rattle.bus_model.specs.World.{Trace, drives_after, next_tick, ticks_on}
 use Rattle.bus_law_line.specs.Shown.{shown_of}
 use Rattle.bus_law_line.specs.Senders.{IsSpent, LeftAlone}
-use Rattle.bus_law_stations.specs.Silence.{quiet_pair, quiet_pairs, quiet_moments, NothingStarts, StationRests}
+use Rattle.bus_base.specs.Samples.{quiet_pair, quiet_pairs}
+use Rattle.bus_law_stations.specs.Silence.{quiet_moments, NothingStarts, StationRests}
 use Rattle.bus_law_stations.specs.Turns.{KeepsControl}
 use Rattle.bus_law_stations.proofs.Ready.{three-first}
 use Rattle.bus_law_stations.proofs.Resting.{heard-quiet, rests-quiet}

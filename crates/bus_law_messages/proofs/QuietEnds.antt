@@ -18,7 +18,7 @@ use Rattle.bus_model.specs.Control.{OutsideTake, yielded_in, course_after, drive
 use Rattle.bus_model.specs.World.{Trace, is_present, drives_after, ticks_on}
 use Rattle.bus_law_line.specs.Senders.{IsSpent, LeftAlone}
 use Rattle.bus_law_line.proofs.Sent.{left-spent}
-use Rattle.bus_law_stations.specs.Silence.{quiet_pairs}
+use Rattle.bus_base.specs.Samples.{quiet_pairs}
 use Rattle.bus_law_stations.proofs.Resting.{rests-quiet}
 use Rattle.bus_law_messages.specs.Settled.{IsServing, Settled, NoneTakes}
 use Rattle.bus_law_messages.proofs.Sending.{place-silent, place-drives}

@@ -24,7 +24,8 @@ use Rattle.bus_model.specs.Course.{Course, close}
 use Rattle.bus_model.specs.Control.{OutsideTake, yielded_in, course_after}
 use Rattle.bus_model.specs.World.{Trace, trace, is_present, ticks_on}
 use Rattle.bus_law_line.specs.Shown.{slots_shown}
-use Rattle.bus_law_stations.specs.Silence.{quiet_pairs, AwaitsFirst}
+use Rattle.bus_base.specs.Samples.{quiet_pairs}
+use Rattle.bus_law_stations.specs.Silence.{AwaitsFirst}
 use Rattle.bus_law_messages.specs.Settled.{Settled, NoneTakes}
 use Rattle.bus_law_messages.specs.Commands.{LeavesWhole}
 use Rattle.bus_law_messages.specs.Ends.{burst_sent}

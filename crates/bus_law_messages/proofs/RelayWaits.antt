@@ -27,7 +27,8 @@ use Rattle.bus_model.specs.Control.{OutsideTake, yielded_in, course_after, heari
 use Rattle.bus_model.specs.World.{Trace, trace, is_present, ticks_on}
 use Rattle.bus_law_line.specs.Shown.{slots_shown}
 use Rattle.bus_law_stations.specs.Legs.{settled_in}
-use Rattle.bus_law_stations.specs.Silence.{quiet_pairs, AwaitsFirst, AwaitsSecond}
+use Rattle.bus_base.specs.Samples.{quiet_pairs}
+use Rattle.bus_law_stations.specs.Silence.{AwaitsFirst, AwaitsSecond}
 use Rattle.bus_law_messages.specs.Settled.{NoneTakes}
 use Rattle.bus_law_messages.specs.Commands.{LeavesWhole}
 use Rattle.bus_law_messages.specs.Ends.{burst_sent}

@@ -18,7 +18,8 @@ use Rattle.bus_model.specs.Attempts.{Begun, Ended, without_words}
 use Rattle.bus_model.specs.Controller.{silence, awaited, reply, reply_from, ending_now, ending_after, command_ending, first_ending, first_read, good_ending, second_ending, drive_command}
 use Rattle.bus_model.specs.Course.{Take, Course, course, gives, close, close_or_run, run_by, runs_next, run_on, with_takes, drive_by, drive_course}
 use Rattle.bus_model.specs.Control.{OutsideTake, yielded_in, so_far, course_after, drives_next}
-use Rattle.bus_law_stations.specs.Silence.{quiet_pair, quiet_pairs, NothingStarts, AreTaken}
+use Rattle.bus_base.specs.Samples.{quiet_pair, quiet_pairs}
+use Rattle.bus_law_stations.specs.Silence.{NothingStarts, AreTaken}
 use Rattle.bus_law_stations.specs.Turns.{KeepsControl}
 use Rattle.bus_law_stations.proofs.StillController.{Awaits, known, pairs-long, not-taken, still-course}
 use Rattle.bus_law_stations.proofs.StillStation.{always-taken}

@@ -15,7 +15,8 @@ use Rattle.bus_model.specs.Control.{OutsideTake, yielded_in, course_after}
 use Rattle.bus_model.specs.World.{Trace, trace, drives_after}
 use Rattle.bus_law_line.specs.Senders.{LeftAlone}
 use Rattle.bus_law_line.proofs.Sent.{left-spent}
-use Rattle.bus_law_stations.specs.Silence.{quiet_pairs, NothingStarts}
+use Rattle.bus_base.specs.Samples.{quiet_pairs}
+use Rattle.bus_law_stations.specs.Silence.{NothingStarts}
 use Rattle.bus_law_stations.proofs.Resting.{rests-quiet}
 use Rattle.bus_law_stations.proofs.StillController.{pairs-long}
 use Rattle.bus_law_messages.specs.Settled.{Settled, NoneTakes, NoneStarts}

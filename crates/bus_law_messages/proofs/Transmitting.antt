@@ -26,7 +26,8 @@ use Rattle.bus_model.specs.Course.{Course}
 use Rattle.bus_model.specs.Control.{OutsideTake, course_after, hearing_after, drives_next}
 use Rattle.bus_model.specs.World.{Trace, trace, is_present, ticks_on}
 use Rattle.bus_law_stations.specs.Legs.{obeyed_in}
-use Rattle.bus_law_stations.specs.Silence.{quiet_pairs, AwaitsFirst}
+use Rattle.bus_base.specs.Samples.{quiet_pairs}
+use Rattle.bus_law_stations.specs.Silence.{AwaitsFirst}
 use Rattle.bus_law_stations.specs.Messages.{BeginsMessage, message_begun}
 use Rattle.bus_law_messages.specs.Settled.{IsServing, Settled, NoneTakes}
 use Rattle.bus_law_messages.specs.Commands.{LeavesWhole}

@@ -18,7 +18,7 @@ use Rattle.bus_model.specs.Attempts.{Begun, without_words}
 use Rattle.bus_model.specs.Course.{Course, close}
 use Rattle.bus_model.specs.Control.{OutsideTake, course_after}
 use Rattle.bus_model.specs.World.{Trace, trace, is_present, ticks_on}
-use Rattle.bus_law_stations.specs.Silence.{quiet_pairs}
+use Rattle.bus_base.specs.Samples.{quiet_pairs}
 use Rattle.bus_law_stations.specs.Messages.{BeginsMessage, message_begun}
 use Rattle.bus_law_messages.specs.Settled.{Settled, NoneTakes}
 use Rattle.bus_law_messages.specs.Commands.{LeavesWhole}

@@ -8,7 +8,7 @@ use Rattle.bus_base.specs.declared.samples.Part.TheVariants.{First, Second}
 use Rattle.bus_words.specs.declared.word.Word.{Word}
 use Rattle.bus_line.specs.Past.{Burst, end_of, rest_of, runs}
 use Rattle.bus_formats.specs.Plans.{TerminalData, StationData}
-use Rattle.bus_model.specs.Waits.{relay_wait}
+use Rattle.bus_formats.specs.Times.{relay_wait}
 use Rattle.bus_model.specs.Memory.{TimedLoad}
 use Rattle.bus_model.specs.Orders.{Obeyed, Order, owes, promises, last_order, due_after}
 use Rattle.bus_model.specs.Hearing.{Moment, Hearing, heard_on}

@@ -23,7 +23,7 @@ ghost use Rattle.bus_model.specs.Controller.{is_bad};
 ghost use Rattle.bus_model.specs.Course.{Course, gives, close};
 ghost use Rattle.bus_model.specs.Control.{OutsideTake, course_after};
 ghost use Rattle.bus_model.specs.World.{Trace, trace};
-ghost use Rattle.bus_law_stations.specs.Silence.{quiet_pairs};
+ghost use Rattle.bus_base.specs.Samples.{quiet_pairs};
 ghost use Rattle.bus_law_stations.specs.Messages.{BeginsMessage, message_begun};
 ghost use Rattle.bus_law_messages.specs.Settled.{Settled, NoneTakes};
 ghost use Rattle.bus_law_messages.specs.Commands.{LeavesWhole};

@@ -9,7 +9,7 @@ ghost use Rattle.bus_model.specs.Control.{hearing_after, course_after};
 ghost use Rattle.bus_model.specs.Terminal.{took_now};
 ghost use Rattle.bus_model.specs.World.{run_is_over};
 ghost use Rattle.bus_law_line.specs.Shown.{struck_spelling};
-ghost use Rattle.bus_law_stations.specs.Silence.{quiet_pairs};
+ghost use Rattle.bus_base.specs.Samples.{quiet_pairs};
 ghost use Rattle.bus_law_messages.specs.Settled.{Settled};
 ghost use Rattle.bus_law_messages.specs.FirstPath.{terminal_at, block, block_message, sending_station, receiving_station, block_plan, block_trace, block_world, clear_status, block_attempt};
 

@@ -7,7 +7,7 @@ ghost use Rattle.bus_model.specs.Starts.{starts};
 ghost use Rattle.bus_model.specs.Course.{Course, quiet_from};
 ghost use Rattle.bus_model.specs.Control.{OutsideTake, course_after};
 ghost use Rattle.bus_model.specs.World.{Trace, is_present, trace};
-ghost use Rattle.bus_law_stations.specs.Silence.{quiet_pairs};
+ghost use Rattle.bus_base.specs.Samples.{quiet_pairs};
 ghost use Rattle.bus_law_messages.specs.Settled.{Settled, NoneTakes, NoneStarts};
 
 /// From a settled moment both channels are quiet until the next message starts, and each moment until then is settled: the station in control waits

@@ -26,7 +26,7 @@ ghost use Rattle.bus_model.specs.Control.{OutsideTake, course_after, hearing_aft
 ghost use Rattle.bus_model.specs.World.{Trace, trace, is_present};
 ghost use Rattle.bus_law_line.specs.Shown.{slots_shown};
 ghost use Rattle.bus_law_stations.specs.Legs.{obeyed_in};
-ghost use Rattle.bus_law_stations.specs.Silence.{quiet_pairs};
+ghost use Rattle.bus_base.specs.Samples.{quiet_pairs};
 ghost use Rattle.bus_law_stations.specs.Messages.{BeginsMessage, message_begun};
 ghost use Rattle.bus_law_messages.specs.Settled.{Settled, NoneTakes};
 ghost use Rattle.bus_law_messages.specs.Commands.{LeavesWhole};

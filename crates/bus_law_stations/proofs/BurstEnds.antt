@@ -12,7 +12,7 @@ use Rattle.bus_line.specs.Past.{Burst, first_tick, ended_now, end_of, rest_of}
 use Rattle.bus_line.proofs.CollectLaws.{end-closes}
 use Rattle.bus_line.proofs.Legs.{first_tick-leg}
 use Rattle.bus_formats.specs.Plans.{TerminalData}
-use Rattle.bus_model.specs.Waits.{relay_wait}
+use Rattle.bus_formats.specs.Times.{relay_wait}
 use Rattle.bus_model.specs.Memory.{Memory, TimedLoad, with_loads}
 use Rattle.bus_model.specs.Orders.{promises, Order, Obeyed, last_order}
 use Rattle.bus_model.specs.Hearing.{Moment, heard_on, is_addressed}
@@ -108,7 +108,7 @@ module _ (k : ℕ) (t : TerminalData) (loads : List TimedLoad) (memory : Memory)
   obeys-tick : (tick : ℕ) (order : Order) → length heard ≤ tick → last_order t.address burst.slots ≡ Some order →
       after_tick k t loads now (ticks ++ heard) (with_addressed (standing k t loads memory heard) c (Some tick))
       ≡ after_command (standing k t loads memory heard) c (end_of burst) tick
-      (obeyed_in t loads (length (ticks ++ heard)) (standing k t loads memory heard) c order (rest_of burst) now.may)
+      (obeyed_in t loads (length (ticks ++ heard)) (standing k t loads memory heard) c order (rest_of burst) now.has_items)
   obeys-tick tick order late last =
       let s = standing k t loads memory heard in
       let u = with_addressed s c (Some tick) in
@@ -133,7 +133,7 @@ module _ (k : ℕ) (t : TerminalData) (loads : List TimedLoad) (memory : Memory)
       (left.0, within.0, within.1, m.stands ∙ ap (λ v. with_addressed s c (option_or v (mark_on s.addressed c))) left.1)
 
   pub obeyed : HearsBurst k t (standing k t loads memory heard) c heard ticks → k < 40 → (order : Order) → last_order t.address burst.slots ≡ Some order →
-      let o : Obeyed = obeyed_in t loads (length (ticks ++ heard)) (standing k t loads memory heard) c order (rest_of burst) now.may in
+      let o : Obeyed = obeyed_in t loads (length (ticks ++ heard)) (standing k t loads memory heard) c order (rest_of burst) now.has_items in
       (slot_end : ℕ) × (length heard ≤ slot_end) × (slot_end < length (ticks ++ heard))
       × (standing k t loads memory (now ∷ (ticks ++ heard)) ≡ after_command (standing k t loads memory heard) c (end_of burst) slot_end o)
       × (took_now k t loads record { memory = memory; ticks = now ∷ (ticks ++ heard) } ≡ o.taken)
@@ -145,8 +145,8 @@ module _ (k : ℕ) (t : TerminalData) (loads : List TimedLoad) (memory : Memory)
         m.1,
         m.2,
         ap (after_tick k t loads now past) m.3 ∙ obeys-tick m.0 order m.1 last,
-        ap (λ (u : Standing). taken_by k t loads (length past) now.may u (order_now k t (now ∷ past) u)) m.3
-            ∙ ap (taken_by k t loads (length past) now.may (with_addressed (standing k t loads memory heard) c (Some m.0))) (obeys-order m.0 order m.1 last),
+        ap (λ (u : Standing). taken_by k t loads (length past) now.has_items u (order_now k t (now ∷ past) u)) m.3
+            ∙ ap (taken_by k t loads (length past) now.has_items (with_addressed (standing k t loads memory heard) c (Some m.0))) (obeys-order m.0 order m.1 last),
       )
 
   -- ---- no command
@@ -202,10 +202,10 @@ module _ (k : ℕ) (t : TerminalData) (loads : List TimedLoad) (memory : Memory)
             (ready-begins k t s c old heard ticks ready)
             (mark-other k t s c old now past beside)
             (end-own k t s c old now heard ticks burst ready ended ∙ sym (own-mark s c old))
-            ∙ ap (λ (v : Standing). after_order v h (done_in k t loads (length past) now.may v h)) (same-mark s c)
+            ∙ ap (λ (v : Standing). after_order v h (done_in k t loads (length past) now.has_items v h)) (same-mark s c)
             ∙ ap (after_promise s (end_of burst)) kept,
-        ap (λ (v : Standing). taken_by k t loads (length past) now.may v (order_now k t (now ∷ past) v)) before
-            ∙ ap (taken_by k t loads (length past) now.may u) order
+        ap (λ (v : Standing). taken_by k t loads (length past) now.has_items v (order_now k t (now ∷ past) v)) before
+            ∙ ap (taken_by k t loads (length past) now.has_items u) order
             ∙ ap (λ (o : Obeyed). o.taken) kept,
       )
 
@@ -231,6 +231,6 @@ module _ (k : ℕ) (t : TerminalData) (loads : List TimedLoad) (memory : Memory)
             (mark-other k t s c old now past beside)
             (end-own k t s c old now heard ticks burst ready ended)
             ∙ marked-twice s c old old ∙ same-mark s c,
-        ap (λ (v : Standing). taken_by k t loads (length past) now.may v (order_now k t (now ∷ past) v)) before
-            ∙ ap (taken_by k t loads (length past) now.may u) order,
+        ap (λ (v : Standing). taken_by k t loads (length past) now.has_items v (order_now k t (now ∷ past) v)) before
+            ∙ ap (taken_by k t loads (length past) now.has_items u) order,
       )

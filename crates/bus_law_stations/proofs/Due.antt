@@ -110,14 +110,14 @@ pub obeyed-due : (k : ℕ) (t : TerminalData) (loads : List TimedLoad) (memory :
     IsReady k t (standing k t loads memory heard) c heard → HearsBurst k t (standing k t loads memory heard) c heard ticks →
     IsUnheeded k t (standing k t loads memory heard) (other_of c) (now ∷ (ticks ++ heard)) →
     ended_now k (heard_on c (now ∷ (ticks ++ heard))) ≡ Some burst → last_order t.address burst.slots ≡ Some order →
-    let o : Obeyed = obeyed_in t loads (length (ticks ++ heard)) (standing k t loads memory heard) c order (rest_of burst) now.may in
+    let o : Obeyed = obeyed_in t loads (length (ticks ++ heard)) (standing k t loads memory heard) c order (rest_of burst) now.has_items in
     let later : List Moment = quiet_moments mays ++ (now ∷ (ticks ++ heard)) in is_owed o.duty ≡ true →
     runs k (heard_on (other_of c) (now ∷ (ticks ++ heard))) ≡ false → length later ≡ due_after t (end_of burst) →
     BeginsAnswer k t (standing k t loads memory later) c later
     × ((standing k t loads memory later).duty ≡ o.duty) × ((standing k t loads memory later).part ≡ First)
 obeyed-due k t loads memory c heard ticks now burst order mays small ready hears beside ended last owes rests due =
     let s = standing k t loads memory heard in
-    let o : Obeyed = obeyed_in t loads (length (ticks ++ heard)) s c order (rest_of burst) now.may in
+    let o : Obeyed = obeyed_in t loads (length (ticks ++ heard)) s c order (rest_of burst) now.has_items in
     let so = obeyed k t loads memory c heard ticks now burst ready beside ended hears small order last in
     let u = after_command s c (end_of burst) so.0 o in
     let first = began k t s c heard ticks now burst hears ended in

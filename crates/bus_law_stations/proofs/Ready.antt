@@ -9,7 +9,7 @@ use Rattle.bus_words.specs.declared.word.Word.{Word}
 use Rattle.bus_line.specs.Past.{Burst, InLeg, ended_now, slot_now, heard_within}
 use Rattle.bus_line.proofs.HeardLaws.{heard_within-from}
 use Rattle.bus_formats.specs.Plans.{TerminalData}
-use Rattle.bus_model.specs.Waits.{relay_wait}
+use Rattle.bus_formats.specs.Times.{relay_wait}
 use Rattle.bus_model.specs.Memory.{TimedLoad}
 use Rattle.bus_model.specs.Orders.{Order, last_order, due_after}
 use Rattle.bus_model.specs.Hearing.{Moment, heard_on, is_addressed}
@@ -59,9 +59,9 @@ pub tick-marks : (k : ℕ) (t : TerminalData) (loads : List TimedLoad) (s : Stan
     order_now k t (now ∷ past) s ≡ None → begins k t past s ≡ false → addressed_on k t (now ∷ past) s (other_of c) ≡ mark_on s.addressed (other_of c) →
     addressed_on k t (now ∷ past) s c ≡ m → after_tick k t loads now past s ≡ with_addressed s c m
 tick-marks k t loads s A now past m none fresh other own =
-    ap (λ o. marked_by k t now past s (ordered k t loads (length past) now.may s o)) none ∙ (rw (fresh, own, other) refl)
+    ap (λ o. marked_by k t now past s (ordered k t loads (length past) now.has_items s o)) none ∙ (rw (fresh, own, other) refl)
 tick-marks k t loads s B now past m none fresh other own =
-    ap (λ o. marked_by k t now past s (ordered k t loads (length past) now.may s o)) none ∙ (rw (fresh, own, other) refl)
+    ap (λ o. marked_by k t now past s (ordered k t loads (length past) now.has_items s o)) none ∙ (rw (fresh, own, other) refl)
 
 marked-same : (k : ℕ) (t : TerminalData) (s u : Standing) (c : Channel) (now : Moment) (past : List Moment) → begins k t past s ≡ false →
     addressed_on k t (now ∷ past) s (other_of c) ≡ mark_on s.addressed (other_of c) → addressed_on k t (now ∷ past) s c ≡ mark_on s.addressed c →
@@ -74,19 +74,19 @@ pub tick-obeys : (k : ℕ) (t : TerminalData) (loads : List TimedLoad) (s : Stan
     (e rest : ℕ) (order : Order) →
     order_now k t (now ∷ past) s ≡ Some (obeys c e order rest) → begins k t past s ≡ false →
     addressed_on k t (now ∷ past) s (other_of c) ≡ mark_on s.addressed (other_of c) → addressed_on k t (now ∷ past) s c ≡ mark_on s.addressed c →
-    after_tick k t loads now past s ≡ after_order s (obeys c e order rest) (done_in k t loads (length past) now.may s (obeys c e order rest))
+    after_tick k t loads now past s ≡ after_order s (obeys c e order rest) (done_in k t loads (length past) now.has_items s (obeys c e order rest))
 tick-obeys k t loads s c now past e rest order some fresh other own =
-    ap (λ o. marked_by k t now past s (ordered k t loads (length past) now.may s o)) some
-    ∙ marked-same k t s (ordered k t loads (length past) now.may s (Some (obeys c e order rest))) c now past fresh other own
+    ap (λ o. marked_by k t now past s (ordered k t loads (length past) now.has_items s o)) some
+    ∙ marked-same k t s (ordered k t loads (length past) now.has_items s (Some (obeys c e order rest))) c now past fresh other own
 
 -- a promise is settled
 pub tick-settles : (k : ℕ) (t : TerminalData) (loads : List TimedLoad) (s : Standing) (c : Channel) (now : Moment) (past : List Moment) (e rest : ℕ)
     (slots : List (Option Word)) → order_now k t (now ∷ past) s ≡ Some (settles e slots rest) → begins k t past s ≡ false →
     addressed_on k t (now ∷ past) s (other_of c) ≡ mark_on s.addressed (other_of c) → addressed_on k t (now ∷ past) s c ≡ mark_on s.addressed c →
-    after_tick k t loads now past s ≡ after_order s (settles e slots rest) (done_in k t loads (length past) now.may s (settles e slots rest))
+    after_tick k t loads now past s ≡ after_order s (settles e slots rest) (done_in k t loads (length past) now.has_items s (settles e slots rest))
 tick-settles k t loads s c now past e rest slots some fresh other own =
-    ap (λ o. marked_by k t now past s (ordered k t loads (length past) now.may s o)) some
-    ∙ marked-same k t s (ordered k t loads (length past) now.may s (Some (settles e slots rest))) c now past fresh other own
+    ap (λ o. marked_by k t now past s (ordered k t loads (length past) now.has_items s o)) some
+    ∙ marked-same k t s (ordered k t loads (length past) now.has_items s (Some (settles e slots rest))) c now past fresh other own
 
 -- ---- the other channel
 

@@ -13,7 +13,8 @@ use Rattle.bus_line.proofs.TickLaws.{at-quiet}
 use Rattle.bus_line.proofs.HeardLaws.{heard_within-is, heard_within-from}
 use Rattle.bus_line.proofs.EndLaws.{end_since-stays, end_since-late}
 use Rattle.bus_model.specs.Hearing.{Moment, heard_on}
-use Rattle.bus_law_stations.specs.Silence.{quiet_pair, quiet_moments}
+use Rattle.bus_base.specs.Samples.{quiet_pair}
+use Rattle.bus_law_stations.specs.Silence.{quiet_moments}
 
 pub quiet-on : (c : Channel) → sample_on quiet_pair c ≡ Quiet
 quiet-on A = refl

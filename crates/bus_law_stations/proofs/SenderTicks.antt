@@ -56,9 +56,9 @@ tick-begins : (k : ℕ) (t : TerminalData) (loads : List TimedLoad) (s : Standin
     addressed_on k t (now ∷ past) s c ≡ mark_on s.addressed c → addressed_on k t (now ∷ past) s (other_of c) ≡ mark_on s.addressed (other_of c) →
     after_tick k t loads now past s ≡ with_sent s c (Some (length past))
 tick-begins k t loads s A now past none begun on off own other =
-    ap (λ o. marked_by k t now past s (ordered k t loads (length past) now.may s o)) none ∙ (rw (begun, on, off, own, other) refl)
+    ap (λ o. marked_by k t now past s (ordered k t loads (length past) now.has_items s o)) none ∙ (rw (begun, on, off, own, other) refl)
 tick-begins k t loads s B now past none begun on off own other =
-    ap (λ o. marked_by k t now past s (ordered k t loads (length past) now.may s o)) none ∙ (rw (begun, on, off, own, other) refl)
+    ap (λ o. marked_by k t now past s (ordered k t loads (length past) now.has_items s o)) none ∙ (rw (begun, on, off, own, other) refl)
 
 -- no slot ends in the first tick of a burst
 first-slot : (k : ℕ) (x : Sample) (past : List Sample) → runs k past ≡ false → slot_now k (x ∷ past) ≡ None

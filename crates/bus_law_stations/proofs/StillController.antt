@@ -18,7 +18,8 @@ use Rattle.bus_model.specs.Starts.{Entry, start_of}
 use Rattle.bus_model.specs.Attempts.{Begun}
 use Rattle.bus_model.specs.Controller.{silence, awaited, whole, reply, reply_from, reply_until, ending_after, command_ending, first_ending, first_read, good_ending, second_ending, drive_command}
 use Rattle.bus_model.specs.Course.{Take, Course, course, quiet_from, begin_entry, run_by, runs_next, close_or_run, run_on, with_takes, drive_by, drive_course}
-use Rattle.bus_law_stations.specs.Silence.{quiet_pair, quiet_pairs, AwaitsFirst, AwaitsSecond, NothingStarts, AreTaken}
+use Rattle.bus_base.specs.Samples.{quiet_pair, quiet_pairs}
+use Rattle.bus_law_stations.specs.Silence.{AwaitsFirst, AwaitsSecond, NothingStarts, AreTaken}
 use Rattle.bus_law_stations.proofs.Resting.{quiet-on, cases-option}
 
 pub pairs-long : (n : ℕ) (past : List Pair) → length (quiet_pairs n ++ past) ≡ n + length past

@@ -10,7 +10,8 @@ use Rattle.bus_model.specs.Hearing.{Moment, Hearing}
 use Rattle.bus_model.specs.Terminal.{standing_after, drives, accepted_now}
 use Rattle.bus_model.specs.Course.{Take, Course, drive_course}
 use Rattle.bus_model.specs.Control.{OutsideTake, StationSoFar, unheard, moment_of, hear_more, accepted_take, yielded_in, is_outside, outside_takes, takes_in, taken_over, serve, hold, course_with, so_far, so_far_after, course_after, hearing_after, drives_next}
-use Rattle.bus_law_stations.specs.Silence.{quiet_pair, quiet_pairs, NothingDue, AreTaken, StationRests, heard_more}
+use Rattle.bus_base.specs.Samples.{quiet_pair, quiet_pairs}
+use Rattle.bus_law_stations.specs.Silence.{NothingDue, AreTaken, StationRests, heard_more}
 use Rattle.bus_law_stations.proofs.StillTerminal.{quiet_moment, due-later, still-stands, still-silent, still-accepts}
 use Rattle.bus_law_stations.proofs.StillController.{pairs-long, still-course, still-drive, fewer}
 

@@ -10,17 +10,18 @@ use Rattle.bus_base.specs.declared.samples.Sample.{Sample}
 use Rattle.bus_base.specs.declared.samples.Drive.TheVariants.{Silent}
 use Rattle.bus_line.specs.Past.{runs, ended_now, heard_within}
 use Rattle.bus_formats.specs.Plans.{TerminalData}
-use Rattle.bus_model.specs.Waits.{relay_wait}
+use Rattle.bus_formats.specs.Times.{relay_wait}
 use Rattle.bus_model.specs.Memory.{Memory, TimedLoad}
 use Rattle.bus_model.specs.Orders.{Duty, free, owes, promises, due_after}
 use Rattle.bus_model.specs.Hearing.{Moment, heard_on}
 use Rattle.bus_model.specs.Standing.{Standing, Handled, superseded, ignored_from, mark_on, is_owed, promised_on}
 use Rattle.bus_model.specs.Terminal.{given_up, is_over, drive_duty, heard_status, order_of, order_on, running_out, order_now, begins, marked_by, ordered, after_tick, standing, drives, taken_by, took_now, accepted_by, accepted_now}
-use Rattle.bus_law_stations.specs.Silence.{quiet_pair, quiet_moments, NothingDue}
+use Rattle.bus_base.specs.Samples.{quiet_pair}
+use Rattle.bus_law_stations.specs.Silence.{quiet_moments, NothingDue}
 use Rattle.bus_law_stations.proofs.Resting.{quiet-on, heard-quiet, heard-long, moments-long, rests-quiet, ended-quiet, within-quiet, over-quiet, over-late}
 
 abbrev pub quiet_moment : Bool → Moment
-quiet_moment may = record { shown = quiet_pair; may = may }
+quiet_moment may = record { shown = quiet_pair; has_items = may }
 
 -- ---- nothing is due later either
 

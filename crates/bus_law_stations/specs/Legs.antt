@@ -6,7 +6,7 @@ use Rattle.bus_base.specs.declared.samples.Channel.TheVariants.{A, B}
 use Rattle.bus_base.specs.declared.samples.Part.TheVariants.{First, Second}
 use Rattle.bus_line.specs.Past.{Burst, rest_of, InLeg, runs, ended_now, slot_now}
 use Rattle.bus_formats.specs.Plans.{TerminalData}
-use Rattle.bus_model.specs.Waits.{relay_wait}
+use Rattle.bus_formats.specs.Times.{relay_wait}
 use Rattle.bus_model.specs.Memory.{TimedLoad, with_loads}
 use Rattle.bus_model.specs.Orders.{Obeyed, Order, last_order, due_after, obey, keep_promise}
 use Rattle.bus_model.specs.Hearing.{Moment, heard_on, is_addressed}

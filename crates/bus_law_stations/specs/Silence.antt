@@ -1,5 +1,6 @@
 -- Quiet ticks, and the premises under which they change nothing of a station: no burst runs, and nothing is due.
 use Rattle.std.specs.Prelude.{◌≡◌, ◌⊎◌, ℕ, zero, suc, ◌+◌, ◌<◌, ◌≤◌, Bool, true, false, List, [], ◌∷◌, ◌++◌, length, Some, None}
+use Rattle.bus_base.specs.Samples.{quiet_pair, quiet_pairs}
 use Rattle.bus_base.specs.declared.samples.Sample.{Sample}
 use Rattle.bus_base.specs.declared.samples.Sample.TheVariants.{Quiet}
 use Rattle.bus_base.specs.declared.samples.Part.TheVariants.{First}
@@ -13,7 +14,7 @@ use Rattle.bus_formats.specs.Times.{no_response}
 use Rattle.bus_formats.specs.Readings.{read_answer}
 use Rattle.bus_formats.specs.declared.form.Reading.TheVariants.{Good}
 use Rattle.bus_formats.specs.declared.form.Shape.{Shape}
-use Rattle.bus_model.specs.Waits.{relay_wait}
+use Rattle.bus_formats.specs.Times.{relay_wait}
 use Rattle.bus_model.specs.Memory.{TimedLoad}
 use Rattle.bus_model.specs.Orders.{due_after}
 use Rattle.bus_model.specs.Hearing.{Moment, heard_on}
@@ -25,18 +26,10 @@ use Rattle.bus_model.specs.Controller.{reply, whole}
 use Rattle.bus_model.specs.Course.{Take, Course, quiet_from}
 use Rattle.bus_model.specs.Control.{OutsideTake, StationSoFar, outside_takes, course_after, hearing_after}
 
-abbrev pub quiet_pair : Pair
-quiet_pair = record { a = Quiet; b = Quiet }
-
--- so many ticks in which both channels are quiet
-abbrev pub quiet_pairs : ℕ → List Pair
-quiet_pairs zero = []
-quiet_pairs (suc n) = quiet_pair ∷ quiet_pairs n
-
--- the same as a terminal hears them: in each its station has items left or not
+-- quiet ticks as a terminal hears them: in each its station has items left or not
 abbrev pub quiet_moments : List Bool → List Moment
 quiet_moments [] = []
-quiet_moments (may ∷ mays) = record { shown = quiet_pair; may = may } ∷ quiet_moments mays
+quiet_moments (may ∷ mays) = record { shown = quiet_pair; has_items = may } ∷ quiet_moments mays
 
 -- ---- a terminal
 

@@ -20,7 +20,7 @@ ghost use Rattle.bus_law_stations.specs.Legs.{IsUnheeded, HearsBurst, IsReady, B
 pub fn an_obeyed_command_is_answered_when_due()
     ensures { (k : ℕ) (terminal : TerminalData) (loads : List TimedLoad) (memory : Memory) (c : Channel) (heard ticks : List Moment) (now : Moment)
         (burst : Burst) (order : Order) (mays : List Bool) → k < 40 → let s = standing k terminal loads memory heard in
-        let o : Obeyed = obeyed_in terminal loads (length (ticks ++ heard)) s c order (rest_of burst) now.may in
+        let o : Obeyed = obeyed_in terminal loads (length (ticks ++ heard)) s c order (rest_of burst) now.has_items in
         let later : List Moment = quiet_moments mays ++ (now ∷ (ticks ++ heard)) in
         IsReady k terminal s c heard → HearsBurst k terminal s c heard ticks → IsUnheeded k terminal s (other_of c) (now ∷ (ticks ++ heard)) →
         ended_now k (heard_on c (now ∷ (ticks ++ heard))) ≡ Some burst → last_order terminal.address burst.slots ≡ Some order → is_owed o.duty ≡ true →

@@ -40,7 +40,7 @@ pub fn a_running_burst_changes_only_marks()
 pub fn a_burst_is_obeyed_or_taken()
     ensures obeyed { (k : ℕ) (terminal : TerminalData) (loads : List TimedLoad) (memory : Memory) (c : Channel) (heard ticks : List Moment) (now : Moment)
         (burst : Burst) (order : Order) → k < 40 → let s = standing k terminal loads memory heard in
-        let o : Obeyed = obeyed_in terminal loads (length (ticks ++ heard)) s c order (rest_of burst) now.may in
+        let o : Obeyed = obeyed_in terminal loads (length (ticks ++ heard)) s c order (rest_of burst) now.has_items in
         IsReady k terminal s c heard → HearsBurst k terminal s c heard ticks → IsUnheeded k terminal s (other_of c) (now ∷ (ticks ++ heard)) →
         ended_now k (heard_on c (now ∷ (ticks ++ heard))) ≡ Some burst → last_order terminal.address burst.slots ≡ Some order →
         ((slot_end : ℕ) × (length heard ≤ slot_end) × (slot_end < length (ticks ++ heard))

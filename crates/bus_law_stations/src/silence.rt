@@ -6,7 +6,7 @@ ghost use Rattle.bus_base.specs.declared.samples.Channel.{Channel};
 ghost use Rattle.bus_base.specs.declared.samples.Pair.{Pair};
 ghost use Rattle.bus_line.specs.Past.{runs, heard_within};
 ghost use Rattle.bus_formats.specs.Plans.{TerminalData, StationData};
-ghost use Rattle.bus_model.specs.Waits.{relay_wait};
+ghost use Rattle.bus_formats.specs.Times.{relay_wait};
 ghost use Rattle.bus_model.specs.Memory.{Memory, TimedLoad, with_loads};
 ghost use Rattle.bus_model.specs.Orders.{Obeyed, free, unkept};
 ghost use Rattle.bus_model.specs.Standing.{Standing, promised_on};
@@ -14,7 +14,8 @@ ghost use Rattle.bus_model.specs.Hearing.{Moment, heard_on};
 ghost use Rattle.bus_model.specs.Terminal.{standing, standing_after, drives, took_now, accepted_now};
 ghost use Rattle.bus_model.specs.Course.{Take, course, drive_course};
 ghost use Rattle.bus_model.specs.Control.{OutsideTake, so_far, course_after, hearing_after, drives_next};
-ghost use Rattle.bus_law_stations.specs.Silence.{quiet_pairs, quiet_moments, NothingDue, AreTaken, NothingStarts, StationRests, heard_more};
+ghost use Rattle.bus_base.specs.Samples.{quiet_pairs};
+ghost use Rattle.bus_law_stations.specs.Silence.{quiet_moments, NothingDue, AreTaken, NothingStarts, StationRests, heard_more};
 
 /// Quiet ticks on both channels change nothing that stands of a terminal while no burst runs and nothing is due: it keeps its memory, its last
 /// order and what that left; it sends nothing, takes no block and accepts no control. At every lag.

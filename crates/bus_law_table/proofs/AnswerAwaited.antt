@@ -24,7 +24,8 @@ use Rattle.bus_model.specs.World.{Trace, is_present}
 use Rattle.bus_model.specs.WorldLog.{present_stations, present_after}
 use Rattle.bus_law_stations.specs.Legs.{obeyed_in}
 use Rattle.bus_law_stations.specs.Messages.{BeginsMessage, message_begun, with_running}
-use Rattle.bus_law_stations.specs.Silence.{quiet_pairs, StationRests}
+use Rattle.bus_base.specs.Samples.{quiet_pairs}
+use Rattle.bus_law_stations.specs.Silence.{StationRests}
 use Rattle.bus_law_stations.specs.Turns.{KeepsControl}
 use Rattle.bus_law_stations.proofs.StillController.{pairs-long}
 use Rattle.bus_law_messages.specs.Settled.{Settled, NoneTakes}

@@ -136,8 +136,8 @@ module _ (k : ℕ) (station : StationData) (starts : Bool) (loads : List TimedLo
         let stands : standing k t loads hearing.memory (ms ++ hearing.ticks) ≡ with_sent s c (Some (length hearing.ticks)) =
         sender-stands k t loads hearing.memory c hearing.ticks (moments_of course ticks) (moment_of y course) answers.begins (hears-answer (y ∷ ticks) alone) in
         ap (took_now k t loads) end-hearing
-        ∙ ap (λ (v : Standing). taken_by k t loads (length before) (moment_of x course).may v (order_now k t (moment_of x course ∷ before) v)) stands
-        ∙ ap (taken_by k t loads (length before) (moment_of x course).may u)
+        ∙ ap (λ (v : Standing). taken_by k t loads (length before) (moment_of x course).has_items v (order_now k t (moment_of x course ∷ before) v)) stands
+        ∙ ap (taken_by k t loads (length before) (moment_of x course).has_items u)
         (orders-none k t u c (moment_of x course ∷ before) own
         (order-none k t u (other_of c) (moment_of x course) before
         (quiet-not-ended k (other_of c) hearing.ticks ms (moment_of x course) (answers.rests (other_of c))
@@ -158,7 +158,7 @@ module _ (k : ℕ) (station : StationData) (starts : Bool) (loads : List TimedLo
       ap (ended_now k) (heard-append c (moments_of course (x ∷ ticks)) hearing.ticks)
       ∙ leg-ends-not k (sample_on x c) (heard_on c ms) (heard_on c hearing.ticks) (hears-answer (x ∷ ticks) alone).leg in
       ap (took_now k t loads) heard
-      ∙ ap (taken_by k t loads (length before) (moment_of x course).may v)
+      ∙ ap (taken_by k t loads (length before) (moment_of x course).has_items v)
       (orders-none k t v c (moment_of x course ∷ before)
       (order-none k t v c (moment_of x course) before runs_on)
       (order-none k t v (other_of c) (moment_of x course) before

@@ -27,7 +27,8 @@ use Rattle.bus_model.specs.Attempts.{Begun}
 use Rattle.bus_model.specs.Course.{Course}
 use Rattle.bus_model.specs.Control.{OutsideTake, yielded_in, course_after, hearing_after}
 use Rattle.bus_model.specs.World.{Trace, is_present, drives_after}
-use Rattle.bus_law_stations.specs.Silence.{quiet_pairs, NothingStarts, StationRests}
+use Rattle.bus_base.specs.Samples.{quiet_pairs}
+use Rattle.bus_law_stations.specs.Silence.{NothingStarts, StationRests}
 use Rattle.bus_law_stations.specs.Legs.{obeyed_in, after_command}
 use Rattle.bus_law_stations.specs.Messages.{with_running}
 use Rattle.bus_law_stations.specs.Turns.{moments_of}

@@ -29,7 +29,7 @@ use Rattle.std.specs.Prelude.{◌/◌, ◌%◌, ◌==◌}
 use Rattle.std.proofs.Common.{Option}
 use Rattle.bus_law_line.specs.Shown.{sample_of}
 use Rattle.bus_law_stations.specs.Messages.{BeginsMessage, message_begun}
-use Rattle.bus_law_stations.specs.Silence.{quiet_pair, quiet_pairs}
+use Rattle.bus_base.specs.Samples.{quiet_pair, quiet_pairs}
 use Rattle.bus_law_messages.specs.Settled.{Settled, NoneTakes}
 use Rattle.bus_law_messages.proofs.Running.{RunsAlone}
 use Rattle.bus_law_messages.proofs.Sending.{own-drives, others-silent}

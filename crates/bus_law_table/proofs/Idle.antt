@@ -115,7 +115,7 @@ module _ (k : ℕ) (t : TerminalData) (loads : List TimedLoad) (memory : Memory)
   idle-promise (now ∷ ticks) none =
       let past = ticks ++ heard in
       let s = standing k t loads memory (ticks ++ heard) in
-      ap (λ o. is_promise (marked_by k t now past s (ordered k t loads (length past) now.may s o)).duty)
+      ap (λ o. is_promise (marked_by k t now past s (ordered k t loads (length past) now.has_items s o)).duty)
       (tick-orders k t s now past none.0 (idle-promise ticks none.1))
       ∙ idle-promise ticks none.1
 
@@ -125,4 +125,4 @@ module _ (k : ℕ) (t : TerminalData) (loads : List TimedLoad) (memory : Memory)
   idle-takes now ticks none =
       let past = ticks ++ heard in
       let s = standing k t loads memory (ticks ++ heard) in
-      ap (taken_by k t loads (length past) now.may s) (tick-orders k t s now past none.0 (idle-promise ticks none.1))
+      ap (taken_by k t loads (length past) now.has_items s) (tick-orders k t s now past none.0 (idle-promise ticks none.1))

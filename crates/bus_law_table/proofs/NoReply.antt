@@ -23,7 +23,8 @@ use Rattle.bus_model.specs.Course.{Course, close}
 use Rattle.bus_model.specs.Control.{OutsideTake, course_after}
 use Rattle.bus_model.specs.World.{Trace, is_present}
 use Rattle.bus_law_stations.specs.Messages.{BeginsMessage, message_begun}
-use Rattle.bus_law_stations.specs.Silence.{quiet_pair, quiet_pairs, StationRests}
+use Rattle.bus_base.specs.Samples.{quiet_pair, quiet_pairs}
+use Rattle.bus_law_stations.specs.Silence.{StationRests}
 use Rattle.bus_law_stations.specs.Turns.{KeepsControl}
 use Rattle.bus_law_stations.proofs.StillController.{pairs-long}
 use Rattle.bus_law_messages.specs.Settled.{Settled, NoneTakes}

@@ -22,7 +22,7 @@ use Rattle.bus_model.specs.World.{Trace, trace}
 use Rattle.bus_law_line.specs.Senders.{attempt_to_come}
 use Rattle.bus_law_line.proofs.WordSlots.{unstruck}
 use Rattle.bus_law_stations.specs.Messages.{BeginsMessage, message_begun}
-use Rattle.bus_law_stations.specs.Silence.{quiet_pairs}
+use Rattle.bus_base.specs.Samples.{quiet_pairs}
 use Rattle.bus_law_messages.specs.Settled.{Settled, NoneTakes}
 use Rattle.bus_law_messages.specs.Commands.{LeavesWhole}
 use Rattle.bus_law_messages.specs.Ends.{burst_sent, CommandOver, IsUnanswered}

@@ -13,7 +13,8 @@ use Rattle.bus_model.specs.Course.{Course, course}
 use Rattle.bus_model.specs.Control.{OutsideTake, so_far, course_after}
 use Rattle.bus_model.specs.World.{Trace, is_present, trace, ticks_on}
 use Rattle.bus_model.specs.WorldLog.{present_stations, present_after}
-use Rattle.bus_law_stations.specs.Silence.{quiet_pairs, StationRests}
+use Rattle.bus_base.specs.Samples.{quiet_pairs}
+use Rattle.bus_law_stations.specs.Silence.{StationRests}
 use Rattle.bus_law_stations.specs.Turns.{KeepsControl}
 use Rattle.bus_law_messages.specs.Settled.{Settled, NoneTakes, NoneStarts}
 use Rattle.bus_law_messages.proofs.Pausing.{same-course, nothing-starts}

@@ -15,7 +15,8 @@ use Rattle.bus_model.specs.Course.{Course}
 use Rattle.bus_model.specs.Control.{OutsideTake, yielded_in, so_far, course_after, hearing_after}
 use Rattle.bus_model.specs.World.{is_present}
 use Rattle.bus_model.specs.WorldLog.{present_stations}
-use Rattle.bus_law_stations.specs.Silence.{quiet_pair, quiet_pairs, NothingStarts, StationRests}
+use Rattle.bus_base.specs.Samples.{quiet_pair, quiet_pairs}
+use Rattle.bus_law_stations.specs.Silence.{NothingStarts, StationRests}
 use Rattle.bus_law_stations.specs.Turns.{KeepsControl}
 use Rattle.bus_law_stations.proofs.StillController.{pairs-long, fewer, still-course}
 use Rattle.bus_law_stations.proofs.StillStation.{always-taken}

@@ -23,7 +23,7 @@ use Rattle.bus_model.specs.Control.{OutsideTake, course_after}
 use Rattle.bus_model.specs.World.{Trace, is_present}
 use Rattle.bus_model.specs.WorldLog.{present_after}
 use Rattle.bus_law_stations.specs.Messages.{message_begun}
-use Rattle.bus_law_stations.specs.Silence.{quiet_pairs}
+use Rattle.bus_base.specs.Samples.{quiet_pairs}
 use Rattle.bus_law_stations.specs.Turns.{KeepsControl}
 use Rattle.bus_law_messages.specs.Settled.{Settled, NoneTakes}
 use Rattle.bus_law_messages.specs.Ends.{burst_sent}

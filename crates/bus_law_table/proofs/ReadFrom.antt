@@ -24,7 +24,7 @@ use Rattle.bus_model.specs.Strikes.{burst_end, ShownAnswer}
 use Rattle.bus_model.specs.World.{Trace, is_present, trace}
 use Rattle.bus_law_stations.specs.Legs.{obeyed_in}
 use Rattle.bus_law_stations.specs.Messages.{BeginsMessage, message_begun}
-use Rattle.bus_law_stations.specs.Silence.{quiet_pairs}
+use Rattle.bus_base.specs.Samples.{quiet_pairs}
 use Rattle.bus_law_messages.specs.Settled.{Settled, NoneTakes}
 use Rattle.bus_law_messages.specs.Ends.{burst_sent, CommandOver}
 use Rattle.bus_law_messages.specs.Answers.{AnswerDue, LeavesNothing}

@@ -46,7 +46,7 @@ use Rattle.bus_law_table.proofs.ReadFrom.{tells}
 use Rattle.bus_law_table.proofs.SameAttempt.{same-attempt}
 use Rattle.bus_law_messages.proofs.Unanswered.{trace-later}
 use Rattle.bus_model.specs.World.{ticks_on}
-use Rattle.bus_law_stations.specs.Silence.{quiet_pairs}
+use Rattle.bus_base.specs.Samples.{quiet_pairs}
 
 -- no other terminal finds a command in the answer, so it leaves nothing of them
 passed-over : (k : ℕ) (plan : PlanData) (loads : List TimedLoad) (outside : List OutsideTake) (absent : List ℕ) (past : List Pair) (place answerer : ℕ)

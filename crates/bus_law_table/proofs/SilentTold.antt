@@ -25,7 +25,7 @@ use Rattle.bus_law_table.proofs.Pairing.{map-map}
 use Rattle.bus_law_table.proofs.Takes.{unheard-on, unheard-alike}
 use Rattle.bus_law_table.proofs.Closed.{closed}
 use Rattle.bus_law_table.proofs.Unstruck.{whole_burst, message-silent, silent_message, silent-same}
-use Rattle.bus_law_stations.specs.Silence.{quiet_pairs}
+use Rattle.bus_base.specs.Samples.{quiet_pairs}
 use Rattle.bus_law_stations.specs.Turns.{KeepsControl}
 use Rattle.bus_model.specs.World.{is_present}
 use Rattle.bus_model.specs.Course.{gives}

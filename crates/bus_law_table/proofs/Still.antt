@@ -15,7 +15,8 @@ use Rattle.bus_model.specs.Terminal.{standing_after, took_now}
 use Rattle.bus_model.specs.Course.{Course}
 use Rattle.bus_model.specs.Control.{OutsideTake, StationSoFar, outside_takes, course_after, hearing_after}
 use Rattle.bus_model.specs.WorldLog.{present_after}
-use Rattle.bus_law_stations.specs.Silence.{quiet_pairs, quiet_moments, NothingDue, StationRests}
+use Rattle.bus_base.specs.Samples.{quiet_pairs}
+use Rattle.bus_law_stations.specs.Silence.{quiet_moments, NothingDue, StationRests}
 use Rattle.bus_law_stations.proofs.Ready.{three-first}
 use Rattle.bus_law_stations.proofs.StillStation.{still-so-far, still-after, still-terminal}
 use Rattle.bus_law_stations.proofs.StillTerminal.{still-takes}

@@ -19,6 +19,7 @@ length-changed : (f : ℕ → Sample → Sample) (old : List Sample) → length 
 unfolding changed
 length-changed f old = length-map-range_with_len (λ p. f p (get_or old p Quiet)) 0 (length old)
 
+-- each sample of the changed list is the changed sample of its place
 changed_at : (f : ℕ → Sample → Sample) (old : List Sample) → ((p : ℕ) → f p Quiet ≡ Quiet) → (p : ℕ) →
     get_or (changed f old) p Quiet ≡ f p (get_or old p Quiet)
 unfolding changed
@@ -40,10 +41,12 @@ some_flipped set old =
     let f : ℕ → Sample → Sample = λ p x. if takes set p then exchanged x else x in
     (changed f old, record { as_long = length-changed f old; each = changed_at f old (λ p. quiet_either (takes set p)) })
 
+-- a sample that fades or stays quiet is quiet
 faded_either : (b : Bool) → (if b then Quiet else Quiet) ≡ Quiet
 faded_either true = refl
 faded_either false = refl
 
+-- there is a list that these fades leave
 pub some_faded : (set : List Bool) (old : List Sample) → (new : List Sample) × IsFaded set old new
 some_faded set old =
     let f : ℕ → Sample → Sample = λ p x. if takes set p then Quiet else x in

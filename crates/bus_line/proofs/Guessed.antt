@@ -35,6 +35,7 @@ sync_by_lead Datum = refl
 pub first_is : (s : List Sample) (p : ℕ) (b : Bool) → SpellsBit s p b → is_plus (get_or s p Quiet) ≡ b
 first_is s p b h = ap is_plus h.first ∙ plus_half b
 
+-- a pair of samples spells one bit alone
 pub same_one : (s : List Sample) (p : ℕ) (a b : Bool) → SpellsBit s p a → SpellsBit s p b → a ≡ b
 same_one s p a b h k = sym (first_is s p a h) ∙ first_is s p b k
 
@@ -94,6 +95,7 @@ same_sample_refl Plus = refl
 same_sample_refl Minus = refl
 same_sample_refl Quiet = refl
 
+-- samples that are found the same are equal
 same_sample_eq : (x y : Sample) → same_sample x y ≡ true → x ≡ y
 same_sample_eq Plus Plus h = refl
 same_sample_eq Plus Minus h = cc
@@ -111,6 +113,7 @@ unfolding same_samples
 same_samples_refl [] = refl
 same_samples_refl (x ∷ xs) = rw (same_sample_refl x) (same_samples_refl xs)
 
+-- so are lists of samples
 pub same_samples_eq : (xs ys : List Sample) → same_samples xs ys ≡ true → xs ≡ ys
 unfolding same_samples
 same_samples_eq [] [] h = refl
@@ -129,6 +132,7 @@ found s e =
     let t : same_samples s (spelling (guessed s)) ≡ true = subst (λ x. same_samples s x ≡ true) e (same_samples_refl s) in
     rw t refl
 
+-- where the guess is spelled otherwise, no word is found
 pub not_found : (s : List Sample) → (s ≡ spelling (guessed s) → ⊥) → word_in s ≡ None
 unfolding word_in
 not_found s n =
@@ -139,6 +143,7 @@ not_found s n =
 pub spells_guessed : (s : List Sample) → s ≡ spelling (guessed s) → Spells (guessed s) s
 spells_guessed s e = subst (λ x. Spells (guessed s) x) (sym e) (spelling_spells (guessed s) (guessed_below s))
 
+-- and no word spells the samples
 pub none_spells : (s : List Sample) → (s ≡ spelling (guessed s) → ⊥) → (w : Word) → Spells w s → ⊥
 none_spells s n w h = n (spells_only w s h ∙ ap spelling (sym (guessed_is w s h)))
 

@@ -22,6 +22,7 @@ flip_first false true false h = cc
 flip_first false false true h = cc
 flip_first false false false h = refl
 
+-- the same of the second half
 flip_second : (f a b : Bool) → second_half b ≡ (if f then exchanged (second_half a) else second_half a) → f ≡ differ a b
 flip_second true true true h = cc
 flip_second true true false h = refl

@@ -25,6 +25,7 @@ pub number_more : (b : ℕ → Bool) (n : ℕ) → number_of b (n + 1) ≡ 2 * n
 unfolding number_of
 number_more b n = rw add-one refl
 
+-- one bit more, as the reader adds it
 pub number_step : (b : ℕ → Bool) (n bits byte : ℕ) (r : Bool) → bits ≡ number_of b n → byte ≡ bool_byte r → r ≡ b n → bits * 2 + byte ≡ number_of b (n + 1)
 number_step b n bits byte true e f g = rw (number_more b n, ← g) (omega arith)
 number_step b n bits byte false e f g = rw (number_more b n, ← g) (omega arith)

@@ -32,6 +32,7 @@ spelled_first w i =
     let d : ((6 + 2 * i) - 6) / 2 ≡ i = omega arith in
     rw (a, b, d) refl
 
+-- and the second half
 spelled_second : (w : Word) (i : ℕ) → spelled w (suc (6 + 2 * i)) ≡ second_half (sent_bit w i)
 unfolding spelled
 spelled_second w i =
@@ -45,6 +46,7 @@ pub sent_low : (w : Word) (i : ℕ) → i < 16 → sent_bit w i ≡ is_one w.bit
 unfolding sent_bit
 sent_low w i h = let a : nat_lt i 16 ≡ true = lt-ltb i 16 h in rw a refl
 
+-- and the last one is the parity bit
 pub sent_last : (w : Word) → sent_bit w 16 ≡ (count_ones w.bits % 2 == 0)
 unfolding sent_bit
 sent_last w = refl
@@ -63,6 +65,7 @@ odd_with n = elim (cases_eq (n % 2) 0) [
   | inr e ↦ (let a : (n % 2 == 0) ≡ false = ne_eqb (n % 2) 0 e in rw a (omega arith))
 ]
 
+-- the parity bit by the number of ones
 even_with : (n : ℕ) (b : Bool) → (n + (if b then 1 else 0)) % 2 ≡ 1 → b ≡ (n % 2 == 0)
 even_with n true h = sym (eq-eqb (n % 2) 0 (omega arith))
 even_with n false h = sym (ne_eqb (n % 2) 0 (λ e. omega arith))
@@ -103,6 +106,7 @@ spells_at w s h p q = elim (cases_lt p 6) [
       ])
 ]
 
+-- what spells a word is its spelling
 pub spells_only : (w : Word) (s : List Sample) → Spells w s → s ≡ spelling w
 spells_only w s h = ext_get_or Quiet s (spelling w) (h.forty ∙ sym (length-spelling w))
     (λ p q. spells_at w s h p (omega (arith, h.forty)) ∙ sym (spelling_at w p (omega (arith, h.forty))))
@@ -112,6 +116,7 @@ first_heard : (b : Bool) → first_half b ≡ Quiet → ⊥
 first_heard true h = cc
 first_heard false h = cc
 
+-- nor is the second half
 second_heard : (b : Bool) → second_half b ≡ Quiet → ⊥
 second_heard true h = cc
 second_heard false h = cc

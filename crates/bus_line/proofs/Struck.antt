@@ -21,6 +21,7 @@ first_differ true false = refl
 first_differ false true = refl
 first_differ false false = refl
 
+-- the same of the second half
 second_differ : (f a : Bool) → (if f then exchanged (second_half a) else second_half a) ≡ second_half (differ a f)
 second_differ true true = refl
 second_differ true false = refl
@@ -47,6 +48,7 @@ leads_struck true Datum = refl
 leads_struck false Command = refl
 leads_struck false Datum = refl
 
+-- a sync that is flipped wholly is the other sync
 sync_struck : (f : Bool) (y : Sync) (p : ℕ) → (if f then exchanged (sync_sample y p) else sync_sample y p) ≡ sync_sample (if f then inverse_sync y else y) p
 sync_struck f y p = rw (leads_struck f y) (elim (cases_Bool (nat_lt p 3)) [
   | inl e ↦ rw e (first_differ f (leads_plus y))
@@ -57,6 +59,7 @@ sync_struck f y p = rw (leads_struck f y) (elim (cases_Bool (nat_lt p 3)) [
 pub struck_bit : List Bool → Word → ℕ → Bool
 struck_bit set w i = differ (is_one w.bits (15 - i)) (takes set (6 + 2 * i))
 
+-- the word whose sync and bits these flips exchange
 pub struck : List Bool → Word → Word
 struck set w = record { sync = if takes set 0 then inverse_sync w.sync else w.sync; bits = number_of (struck_bit set w) 16 }
 
@@ -73,6 +76,7 @@ first_moves : (b : Bool) → first_half b ≡ exchanged (first_half b) → ⊥
 first_moves true h = cc
 first_moves false h = cc
 
+-- nor the second half
 second_moves : (b : Bool) → second_half b ≡ exchanged (second_half b) → ⊥
 second_moves true h = cc
 second_moves false h = cc

@@ -1,3 +1,5 @@
+//! What one channel shows, cut into bursts and slots as the ticks come. Judged by `specs/Past.antt`: a cutter keeps no past, and stands for
+//! every past after which it may be as it is.
 ghost use Rattle.std.specs.Prelude.{◌≡◌, ℕ, ◌<◌, ◌≤◌, ◌^◌, ◌↔◌, IsTrue, false, List, ◌∷◌, length};
 ghost use Rattle.bus_base.specs.declared.samples.Sample.{Sample};
 ghost use Rattle.bus_base.specs.Samples.{is_quiet};

@@ -11,7 +11,7 @@ use Rattle.bus_base.specs.declared.samples.Sample.TheVariants.{Plus, Minus, Quie
 use Rattle.bus_formats.specs.Plans.{TerminalData}
 use Rattle.bus_line.specs.Past.{quiet, stopped, heard_within}
 use Rattle.bus_line.proofs.PastLaws.{quiet-le}
-use Rattle.bus_model.specs.Waits.{relay_wait}
+use Rattle.bus_formats.specs.Times.{relay_wait}
 use Rattle.bus_model.specs.Memory.{Memory, TimedLoad}
 use Rattle.bus_model.specs.Hearing.{Moment, heard_on}
 use Rattle.bus_model.specs.Standing.{Standing, Handled, obeys, settles, runs_out, promised_on}

@@ -9,7 +9,7 @@ use Rattle.bus_base.specs.declared.samples.Sample.{Sample}
 use Rattle.bus_base.specs.declared.samples.Sample.TheVariants.{Plus, Minus, Quiet}
 use Rattle.bus_formats.specs.Plans.{TerminalData}
 use Rattle.bus_line.specs.Past.{Burst, quiet, stopped, runs, first_tick, slot_word, burst_from, newest_burst, ended_now, end_of, rest_of}
-use Rattle.bus_model.specs.Waits.{relay_wait}
+use Rattle.bus_formats.specs.Times.{relay_wait}
 use Rattle.bus_model.specs.Memory.{Memory, TimedLoad}
 use Rattle.bus_model.specs.Orders.{Order, last_order}
 use Rattle.bus_model.specs.Hearing.{Moment, heard_on}

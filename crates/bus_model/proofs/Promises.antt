@@ -157,6 +157,6 @@ stands-always k t loads memory (now ∷ past) small =
     record {
       below = below-on k t loads now past s before.below;
       promised = λ promise. newest-on k t loads now past s _ _ before.below
-          (left-newest k t loads (length past) now.may s (order_now k t (now ∷ past) s) before
+          (left-newest k t loads (length past) now.has_items s (order_now k t (now ∷ past) s) before
           (λ c e last rest given. now-newest k t loads memory now past c e last rest small given) promise);
     }

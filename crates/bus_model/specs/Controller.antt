@@ -16,7 +16,7 @@ use Rattle.bus_formats.specs.declared.form.Outcome.{Outcome}
 use Rattle.bus_formats.specs.declared.form.Outcome.TheVariants.{Clear, Sent, NoResponse, BadReply, Abandoned, Yielded}
 use Rattle.bus_formats.specs.declared.form.Reading.{Reading}
 use Rattle.bus_formats.specs.declared.form.Reading.TheVariants.{Good, Ends}
-use Rattle.bus_model.specs.Waits.{doubting}
+use Rattle.bus_formats.specs.Times.{doubting}
 use Rattle.bus_model.specs.Attempts.{Begun, Ended, without_words, is_offer, kept_words}
 use Rattle.bus_model.specs.Sending.{drive_sample}
 

@@ -12,7 +12,7 @@ use Rattle.bus_formats.specs.declared.form.Outcome.TheVariants.{Clear, Sent, Pas
 use Rattle.bus_formats.specs.declared.form.Reading.{Reading}
 use Rattle.bus_formats.specs.declared.form.Reading.TheVariants.{Good, Ends}
 use Rattle.bus_formats.specs.declared.plan.Kind.{Kind}
-use Rattle.bus_model.specs.Waits.{doubting, taking_over}
+use Rattle.bus_formats.specs.Times.{doubting, taking_over}
 use Rattle.bus_model.specs.Attempts.{Ended, without_words, is_offer, kept_words}
 use Rattle.bus_model.specs.Strikes.{burst_end, ShownAnswer, is_faded}
 

@@ -8,7 +8,7 @@ use Rattle.bus_model.specs.Memory.{TimedLoad}
 use Rattle.bus_model.specs.Message.{Delivered}
 use Rattle.bus_model.specs.Run.{Run, Next, next_item, first_run, attempts_after, most_attempts, take_control}
 use Rattle.bus_model.specs.Starts.{Entry, agenda, first_origin, planned_start, start_of}
-use Rattle.bus_model.specs.Waits.{settling_quiet}
+use Rattle.bus_formats.specs.Times.{settling_quiet}
 use Rattle.bus_model.specs.Strikes.{ShownAnswer, burst_end}
 
 -- ---- one station on two buses

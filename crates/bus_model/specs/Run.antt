@@ -9,7 +9,7 @@ use Rattle.bus_retry.specs.declared.RetryState.{RetryState}
 use Rattle.bus_retry.specs.declared.Choice.{Choice}
 use Rattle.bus_model.specs.Memory.{TimedLoad, first_memory}
 use Rattle.bus_model.specs.Endings.{Passing}
-use Rattle.bus_model.specs.Waits.{ending_quiet}
+use Rattle.bus_formats.specs.Times.{ending_quiet}
 use Rattle.bus_model.specs.Attempts.{Begun, recorded}
 use Rattle.bus_model.specs.Message.{Present, address_of_station, Delivered, Message, message}
 use Rattle.bus_model.specs.Starts.{Entry, agenda, Origin, first_origin, planned_at, Opening, taking, first_opening, opening_after, start_of, state_of, finishes, retry_by, left_after, starts}

@@ -11,7 +11,7 @@ use Rattle.bus_retry.specs.Retries.{first_state}
 use Rattle.bus_retry.specs.declared.RetryState.{RetryState}
 use Rattle.bus_retry.specs.declared.Choice.{Choice}
 use Rattle.bus_retry.specs.declared.Choice.TheVariants.{Again, Done}
-use Rattle.bus_model.specs.Waits.{settling_quiet}
+use Rattle.bus_formats.specs.Times.{settling_quiet}
 
 -- ---- the items of a station, in the order in which they are run
 

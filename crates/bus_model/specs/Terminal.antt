@@ -11,7 +11,7 @@ use Rattle.bus_base.specs.declared.samples.Drive.TheVariants.{Silent}
 use Rattle.bus_words.specs.declared.word.Word.{Word}
 use Rattle.bus_line.specs.Past.{Burst, ended_now, slot_now, end_of, rest_of, heard_within, end_since}
 use Rattle.bus_formats.specs.Plans.{TerminalData}
-use Rattle.bus_model.specs.Waits.{relay_wait}
+use Rattle.bus_formats.specs.Times.{relay_wait}
 use Rattle.bus_model.specs.Memory.{Memory, TimedLoad, with_loads}
 use Rattle.bus_model.specs.Orders.{Duty, owes, promises, Taken, Obeyed, Order, last_order, due_after, obey, keep_promise, unkept}
 use Rattle.bus_model.specs.Sending.{drive_sample}
@@ -133,7 +133,7 @@ module _ (k : ℕ) (terminal : TerminalData) where
     -- one tick after s
     abbrev pub after_tick : Moment → List Moment → Standing → Standing
     after_tick now past s =
-        marked_by now past s (ordered (length past) now.may s (order_now (now ∷ past) s))
+        marked_by now past s (ordered (length past) now.has_items s (order_now (now ∷ past) s))
 
     -- what stands after the ticks heard
     unfoldable pub standing : Memory → List Moment → Standing
@@ -160,7 +160,7 @@ module _ (k : ℕ) (terminal : TerminalData) where
     abbrev pub taken_of : Memory → List Moment → Option Taken
     taken_of memory [] = None
     taken_of memory (now ∷ past) =
-        taken_by (length past) now.may (standing memory past) (order_now (now ∷ past) (standing memory past))
+        taken_by (length past) now.has_items (standing memory past) (order_now (now ∷ past) (standing memory past))
 
     -- the block that it took whole in the newest tick
     abbrev pub took_now : Hearing → Option Taken

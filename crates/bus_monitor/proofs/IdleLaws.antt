@@ -6,7 +6,7 @@ use Rattle.bus_base.specs.declared.samples.Channel.TheVariants.{A, B}
 use Rattle.bus_base.specs.declared.samples.Sample.{Sample}
 use Rattle.bus_base.specs.declared.samples.Sample.TheVariants.{Quiet}
 use Rattle.bus_base.specs.declared.samples.Pair.{Pair}
-use Rattle.bus_capture.specs.Quiet.{quiet_pairs}
+use Rattle.bus_base.specs.Samples.{quiet_pairs}
 use Rattle.bus_line.specs.Past.{runs, first_tick, quiet_ticks, heard_or_now}
 use Rattle.bus_line.specs.Channels.{on_channel}
 use Rattle.bus_line.specs.Cutting.{CutterStands, cut_now}

@@ -8,7 +8,6 @@ pub mod IdleLaws
 pub mod WriterLaws
 pub mod PieceLaws
 pub mod ListLaws
-pub mod OpeningLaws
 pub mod AwaitedLaws
 pub mod FrontLaws
 pub mod ReadingLaws

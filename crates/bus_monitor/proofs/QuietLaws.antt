@@ -8,7 +8,7 @@ use Rattle.bus_base.specs.declared.samples.Sample.TheVariants.{Plus, Minus, Quie
 use Rattle.bus_base.specs.declared.samples.Channel.{Channel}
 use Rattle.bus_base.specs.declared.samples.Channel.TheVariants.{A, B}
 use Rattle.bus_base.specs.declared.samples.Pair.{Pair}
-use Rattle.bus_capture.specs.Quiet.{quiet_pairs}
+use Rattle.bus_base.specs.Samples.{quiet_pairs}
 use Rattle.bus_line.specs.Past.{quiet, quiet_ticks}
 use Rattle.bus_line.specs.Channels.{on_channel, both_quiet, quiet_both}
 use Rattle.bus_line.specs.Cutting.{CutterStands}

@@ -9,7 +9,8 @@ use Rattle.bus_base.specs.declared.samples.Sample.{Sample}
 use Rattle.bus_line.specs.Past.{Burst, runs, first_tick}
 use Rattle.bus_line.specs.Channels.{ValidWord, WholeBurst, on_channel, valid, bursts}
 use Rattle.bus_formats.specs.declared.log.Heard.{Heard}
-use Rattle.bus_text.specs.Texts.{line, number, spaced, hex_word, channel_text, word_line, commands_of, outcome_text, word}
+use Rattle.bus_formats.specs.Forms.{commands_of}
+use Rattle.bus_text.specs.Texts.{line, number, spaced, hex_word, channel_text, word_line, outcome_text, word}
 use Rattle.bus_monitor.specs.Messages.{Came, unknown, ended, Closed, messages, open_message}
 
 abbrev pub end_line : List Pair → List ℕ

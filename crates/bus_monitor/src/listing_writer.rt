@@ -1,6 +1,6 @@
 //! The reading half of both listings: bytes become ticks, ticks become lines, lines go to the sink.
 ghost use Rattle.std.specs.Prelude.{◌≡◌, ◌<◌, ◌≤◌, ◌+◌, ◌^◌, ◌⊎◌, ℕ, Bool, true, List, [], ◌∷◌, ◌++◌, length, reverse, take, Option};
-ghost use Rattle.bus_capture.specs.Quiet.{quiet_pairs};
+ghost use Rattle.bus_base.specs.Samples.{quiet_pairs};
 ghost use Rattle.bus_base.specs.declared.samples.Pair.{Pair};
 ghost use Rattle.std.specs.Io.KnownBytes.{IsAtEnd};
 ghost use Rattle.bus_outside.specs.Causes.{WriteAdds, HasCause, Rose};
@@ -69,12 +69,6 @@ pub(crate) trait Lister {
         ensures { (past : List Pair) → stands self.now past →
             (added : List ℕ) × (whole past ≡ lines past ++ added) × (text.new ≡ text.old ++ added) };
 }
-
-// A tick in which both channels are quiet.
-const QUIET: Pair = Pair {
-    a: Sample::Quiet,
-    b: Sample::Quiet,
-};
 
 /// Why a listing stops within its input.
 #[derive(Clone, Copy, Debug, PartialEq, Eq)]
@@ -162,7 +156,7 @@ impl<L: Lister> ListingWriter<L> {
             TookSome L.stands L.lines self.new piece.now bytes first (K.held sink.new) result }
         ensures cause { FaultHasCause (K.faults sink.old) (K.faults sink.new) result }
     {
-        match self.take_ticks(piece, &mut [QUIET; 64], sink) {
+        match self.take_ticks(piece, &mut [Pair::QUIET; 64], sink) {
             Ok(0) => match self.take(piece[0], sink) {
                 Ok(()) => Ok(1),
                 Err(stop) => Err(stop),

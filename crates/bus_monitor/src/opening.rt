@@ -1,11 +1,11 @@
 //! Which message a burst opens: the one whose command words, with the controller's data words, its slots are.
-ghost use Rattle.std.specs.Prelude.{◌≡◌, ◌≤◌, true, false, Some, IfSome};
+ghost use Rattle.std.specs.Prelude.{◌≡◌, true, false, Some, IfSome};
 ghost use Rattle.bus_formats.specs.Accepted.{HasKindRanges};
 ghost use Rattle.bus_formats.specs.Readings.{data_in as data_in_slots};
 ghost use Rattle.bus_words.specs.Fields.{is_mode, word_count};
 ghost use Rattle.bus_monitor.specs.Messages as spec;
 
-use bus_formats::{Block, Kind, command_in, datum_in, form_of};
+use bus_formats::{Kind, command_in, data_in, datum_in, form_of, is_second_command};
 use bus_words::{Command, Word};
 
 /// The message that a burst of these slots and this rest opens, if it is of a known form.
@@ -69,7 +69,7 @@ fn transmit_message(command: Command, slots: &[Option<Word>]) -> Option<Kind>
     ensures ranges { IfSome result HasKindRanges }
 {
     match slots {
-        [] if command.address() != 31 => Some(Kind::Transmit {
+        [] if !command.is_broadcast() => Some(Kind::Transmit {
             from: command.address(),
             sub: command.sub(),
             count: command.words(),
@@ -110,8 +110,7 @@ fn relay_with(command: Command, second: Command) -> Option<Kind>
     ensures value { result ≡ spec.relay_with command (Some second) }
     ensures ranges { IfSome result HasKindRanges }
 {
-    let relays = second.transmit() && !second.is_mode() && second.field() == command.field();
-    if relays && second.address() != 31 && second.address() != command.address() {
+    if is_second_command(command, second) && second.address() != command.address() {
         Some(Kind::Relay {
             from: second.address(),
             from_sub: second.sub(),
@@ -122,24 +121,4 @@ fn relay_with(command: Command, second: Command) -> Option<Kind>
     } else {
         None
     }
-}
-
-// The data words in the slots: exactly so many, and each valid.
-fn data_in(count: u8, slots: &[Option<Word>]) -> Option<Block>
-    requires { count ≤ 32 }
-    ensures { result ≡ data_in_slots count slots.now }
-{
-    if slots.len() != usize::from(count) {
-        return None;
-    }
-    let mut words = Block::new();
-    for slot in slots {
-        match datum_in(*slot) {
-            Some(word) => {
-                words.push(word);
-            }
-            None => return None,
-        }
-    }
-    Some(words)
 }

@@ -12,11 +12,6 @@ use bus_words::{Sync, Word};
 use std::alloc::{AllocError, Global};
 use std::test::Fail;
 
-const QUIET: Pair = Pair {
-    a: Sample::Quiet,
-    b: Sample::Quiet,
-};
-
 // Which listing is made.
 #[derive(Clone, Copy)]
 enum What {
@@ -50,7 +45,7 @@ fn text_of(alloc: Global, pairs: &[Pair]) -> Result<Vec<u8>, AllocError> {
 
 // A command word for two data words, these, and the status word that answers them.
 fn receive_capture(alloc: Global) -> Result<Vec<u8>, AllocError> {
-    let mut pairs = [QUIET; 252];
+    let mut pairs = [Pair::QUIET; 252];
     show(&mut pairs, Channel::A, 8, Sync::Command, 0x2822);
     show(&mut pairs, Channel::A, 48, Sync::Datum, 0x0102);
     show(&mut pairs, Channel::A, 88, Sync::Datum, 0x0304);
@@ -130,7 +125,7 @@ fn listings_are_the_same_in_any_pieces(rt: HostRuntime) -> Result<(), Fail> {
 #[test]
 fn both_channels_at_once(rt: HostRuntime) -> Result<(), Fail> {
     let alloc = rt.alloc();
-    let mut pairs = [QUIET; 80];
+    let mut pairs = [Pair::QUIET; 80];
     show(&mut pairs, Channel::A, 8, Sync::Command, 0x2c02);
     show(&mut pairs, Channel::B, 29, Sync::Command, 0xfc01);
     let lines = "message 8 A 2C02 no-response 1\nmessage 29 B FC01 sent\nend 80\n";
@@ -148,7 +143,7 @@ fn both_channels_at_once(rt: HostRuntime) -> Result<(), Fail> {
 fn busy_channels_are_listed(alloc: Global, most: usize) -> Result<bool, AllocError>
     requires { 0 < most }
 {
-    let mut pairs = [QUIET; 384];
+    let mut pairs = [Pair::QUIET; 384];
     show(&mut pairs, Channel::A, 3, Sync::Command, 0x2822);
     show(&mut pairs, Channel::A, 43, Sync::Datum, 0x0102);
     show(&mut pairs, Channel::A, 83, Sync::Datum, 0xffff);
@@ -185,13 +180,13 @@ fn whole_lines_are_listed_as_their_bytes_are(rt: HostRuntime) -> Result<(), Fail
 #[test]
 fn an_answer_begins_in_the_last_tick(rt: HostRuntime) -> Result<(), Fail> {
     let alloc = rt.alloc();
-    let mut pairs = [QUIET; 73];
+    let mut pairs = [Pair::QUIET; 73];
     show(&mut pairs, Channel::A, 8, Sync::Command, 0x2c02);
     show(&mut pairs, Channel::A, 72, Sync::Command, 0x2800);
     let text = text_of(alloc, &pairs)?;
     let lines = "message 8 A open\nend 73\n";
     assert!(rt; lists(alloc, What::Messages, text, 1, Listing::Done(73), lines)?);
-    let mut pairs = [QUIET; 74];
+    let mut pairs = [Pair::QUIET; 74];
     show(&mut pairs, Channel::A, 8, Sync::Command, 0x2c02);
     show(&mut pairs, Channel::A, 73, Sync::Command, 0x2800);
     let text = text_of(alloc, &pairs)?;
@@ -232,7 +227,7 @@ fn a_burst_that_never_ends(rt: HostRuntime) -> Result<(), Fail> {
 #[test]
 fn a_refusal_leaves_the_lines_before(rt: HostRuntime) -> Result<(), Fail> {
     let alloc = rt.alloc();
-    let mut pairs = [QUIET; 128];
+    let mut pairs = [Pair::QUIET; 128];
     show(&mut pairs, Channel::A, 8, Sync::Command, 0x2c02);
     show(&mut pairs, Channel::A, 80, Sync::Command, 0x2c02);
     let mut text = text_of(alloc, &pairs)?;

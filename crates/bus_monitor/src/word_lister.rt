@@ -1,6 +1,6 @@
 //! The valid words of both channels, tick by tick.
 ghost use Rattle.std.specs.Prelude.{◌≡◌, ◌<◌, ◌+◌, ◌^◌, ℕ, true, nat_lt, List, [], ◌∷◌, ◌++◌, length};
-ghost use Rattle.bus_capture.specs.Quiet.{quiet_pairs};
+ghost use Rattle.bus_base.specs.Samples.{quiet_pairs};
 ghost use Rattle.bus_base.specs.declared.samples.Channel.TheVariants as channels;
 ghost use Rattle.bus_base.specs.declared.samples.Pair.{Pair};
 ghost use Rattle.bus_line.specs.declared.cutter.TheConstants.{LAG};

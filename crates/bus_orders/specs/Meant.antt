@@ -1,5 +1,5 @@
 -- What the types of this crate say in the words of the definitions.
-use Rattle.std.specs.Prelude.{◌≡◌, ℕ, List, Option, Some, None}
+use Rattle.std.specs.Prelude.{◌≡◌, Option, Some, None}
 use Rattle.bus_model.specs.Commands.{Tail, unexpected, relay_from, carries}
 use Rattle.bus_model.specs.Memory.{Memory}
 use Rattle.bus_model.specs.Orders as orders

@@ -1,12 +1,12 @@
 //! Which words a command wants after it in its burst, and which commands a terminal refuses (4.3.3.6, 4.4.3.3, 4.4.3.4).
 ghost use Rattle.std.specs.Prelude.{◌≡◌, ◌≤◌, ◌<◌, ℕ, Some, None, Option, if◌then◌else◌, length};
-ghost use Rattle.bus_words.specs.Fields as fields;
-ghost use Rattle.bus_formats.specs.Readings as readings;
 ghost use Rattle.bus_model.specs.Commands as spec;
 ghost use Rattle.bus_model.specs.Memory as kept;
 ghost use Rattle.bus_orders.specs.Meant.{tail_meant};
 
-use bus_formats::{Block, Carries, TerminalPlan, carried, command_in, datum_in, mode_of};
+use bus_formats::{
+    Block, Carries, TerminalPlan, carried, command_in, data_in, is_second_command, mode_of,
+};
 use bus_words::{Command, Word};
 
 /// The words after a command: not those that it wants, a relay's second command, or the data words that it wants.
@@ -21,28 +21,7 @@ pub enum Tail {
 pub fn has_code(command: Command, code: u8) -> bool
     ensures { result ≡ spec.has_code command code }
 {
-    is_mode(command) && command.field() == code
-}
-
-/// Whether a command is a mode command: its subaddress is 0 or 31.
-pub fn is_mode(command: Command) -> bool
-    ensures { result ≡ fields.is_mode command }
-{
-    command.sub() == 0 || command.sub() == 31
-}
-
-/// Whether a command tells the terminal to transmit.
-pub fn is_transmit(command: Command) -> bool
-    ensures { result ≡ fields.is_transmit command }
-{
-    command.bits() / 1024 % 2 == 1
-}
-
-/// Whether a command is for all terminals.
-pub fn is_broadcast(command: Command) -> bool
-    ensures { result ≡ fields.is_broadcast command }
-{
-    command.address() == 31
+    command.is_mode() && command.field() == code
 }
 
 /// How many data words follow a command.
@@ -50,12 +29,12 @@ pub fn words_after(command: Command) -> u8
     ensures value { result ≡ spec.words_after command }
     ensures fits { result ≤ 32 }
 {
-    if is_mode(command) {
-        match carried(is_transmit(command), command.field()) {
+    if command.is_mode() {
+        match carried(command.transmit(), command.field()) {
             Carries::ToTerminal => 1,
             Carries::Nothing | Carries::FromTerminal => 0,
         }
-    } else if is_transmit(command) {
+    } else if command.transmit() {
         0
     } else {
         command.words()
@@ -101,41 +80,23 @@ fn transmitter_in(own: u8, command: Command, second: Option<u16>) -> Option<u8>
 fn is_relay(own: u8, command: Command, second: Command) -> bool
     ensures { result ≡ spec.is_relay own command second }
 {
-    !is_mode(command)
-        && !is_transmit(command)
-        && is_transmit(second)
-        && !is_mode(second)
-        && second.field() == command.field()
-        && !is_broadcast(second)
+    !command.is_mode()
+        && !command.transmit()
+        && is_second_command(command, second)
         && second.address() != own
-}
-
-/// The data words in the slots: exactly so many, at most 32, and each valid.
-pub fn data_in(count: u8, slots: &[Option<Word>]) -> Option<Block>
-    requires { count ≤ 32 }
-    ensures { result ≡ readings.data_in count slots.now }
-{
-    if slots.len() != usize::from(count) {
-        return None;
-    }
-    let mut block = Block::new();
-    for slot in slots {
-        block.push(datum_in(*slot)?);
-    }
-    Some(block)
 }
 
 /// Whether the terminal refuses a command: one that it doesn't have, or that may not be broadcast.
 pub fn is_illegal(terminal: &TerminalPlan, command: Command) -> bool
     ensures { result ≡ spec.is_illegal terminal.now command }
 {
-    if is_mode(command) {
-        let entry = mode_of(is_transmit(command), command.field());
+    if command.is_mode() {
+        let entry = mode_of(command.transmit(), command.field());
         !entry.legal
             || is_listed(terminal.no_mode, command.field())
-            || (is_broadcast(command) && !entry.broadcast)
-    } else if is_transmit(command) {
-        is_listed(terminal.no_transmit, command.sub()) || is_broadcast(command)
+            || (command.is_broadcast() && !entry.broadcast)
+    } else if command.transmit() {
+        is_listed(terminal.no_transmit, command.sub()) || command.is_broadcast()
     } else {
         is_listed(terminal.no_receive, command.sub())
     }

@@ -5,7 +5,7 @@ ghost use Rattle.bus_model.specs.Memory.{receive_block};
 ghost use Rattle.bus_model.specs.Orders as spec;
 ghost use Rattle.bus_orders.specs.Meant.{taken_meant, duty_meant, IsDone};
 
-use crate::commands::{Tail, has_code, is_broadcast, is_illegal, is_mode, is_transmit, tail_of};
+use crate::commands::{Tail, has_code, is_illegal, tail_of};
 use crate::registers::{is_off, marked, mode_effect, reset, status_of};
 use crate::{Answer, Done, Duty, Memory, Promise, Taken};
 use arrayvec::ArrayVec;
@@ -155,12 +155,12 @@ pub fn block_taken(terminal: &TerminalPlan, command: Command, words: Block) -> O
     ensures block { taken_meant result ≡ spec.block_taken terminal.now command words }
     ensures sub { IfSome result (λ block. (1 ≤ block.sub) × (block.sub ≤ 30)) }
 {
-    if is_mode(command) || is_transmit(command) || terminal.busy {
+    if command.is_mode() || command.transmit() || terminal.busy {
         return None;
     }
     Some(Taken {
         sub: command.sub(),
-        broadcast: is_broadcast(command),
+        broadcast: command.is_broadcast(),
         words,
     })
 }
@@ -178,7 +178,7 @@ pub fn answer(
     requires fits { length data_words.now ≤ 32 }
     ensures { duty_meant result ≡ spec.answer terminal.now registers channel command acceptance data_words.now }
 {
-    if is_broadcast(command) || is_off(registers, channel) {
+    if command.is_broadcast() || is_off(registers, channel) {
         return Duty::Free;
     }
     let words = answer_words(status_of(terminal, registers, acceptance), data_words);
@@ -220,7 +220,7 @@ fn answer_data(terminal: &TerminalPlan, memory: &Memory, command: Command) -> Bl
     if has_code(command, TRANSMIT_BIT_WORD) {
         return filled(1, &[terminal.bit]);
     }
-    if is_mode(command) || !is_transmit(command) || terminal.busy {
+    if command.is_mode() || !command.transmit() || terminal.busy {
         return Block::new();
     }
     filled(command.words(), memory.sending(command.sub()))

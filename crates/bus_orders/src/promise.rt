@@ -7,11 +7,11 @@ ghost use Rattle.bus_model.specs.Memory.{Memory};
 ghost use Rattle.bus_model.specs.Orders as spec;
 ghost use Rattle.bus_orders.specs.Meant.{IsDone};
 
-use crate::commands::{data_in, is_illegal};
+use crate::commands::is_illegal;
 use crate::obeying::{answer, answered, block_taken, leaves};
 use crate::{Done, Duty, Memory, Promise};
 use bus_base::Channel;
-use bus_formats::{Block, Registers, TerminalPlan, command_in};
+use bus_formats::{Block, Registers, TerminalPlan, command_in, data_in};
 use bus_words::{Command, Status, Word};
 
 /// Keeps a promise by a burst on its channel with these slots and so many ticks of rest.

@@ -3,7 +3,7 @@ ghost use Rattle.std.specs.Prelude.{◌≡◌, ◌≤◌, ℕ, get_or};
 ghost use Rattle.bus_model.specs.Memory as kept;
 ghost use Rattle.bus_model.specs.Orders as spec;
 
-use crate::commands::{has_code, is_broadcast, is_transmit};
+use crate::commands::has_code;
 use bus_base::Channel;
 use bus_formats::code::{
     INHIBIT_TERMINAL_FLAG, OVERRIDE_INHIBIT_TERMINAL_FLAG, OVERRIDE_TRANSMITTER_SHUTDOWN,
@@ -16,14 +16,14 @@ use bus_words::{Command, Flags, Status};
 pub fn marked(registers: Registers, command: Command, message_error: bool) -> Registers
     ensures { result ≡ spec.marked registers command message_error }
 {
-    let asks_last = has_code(command, TRANSMIT_LAST_COMMAND) && is_transmit(command);
+    let asks_last = has_code(command, TRANSMIT_LAST_COMMAND) && command.transmit();
     Registers {
         last: if asks_last {
             registers.last
         } else {
             command.bits()
         },
-        broadcast: is_broadcast(command),
+        broadcast: command.is_broadcast(),
         message_error,
         ..registers
     }

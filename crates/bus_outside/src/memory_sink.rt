@@ -1,3 +1,4 @@
+//! A sink that keeps its bytes in memory, and that fails where a test wants it to.
 ghost use Rattle.std.specs.Prelude.{◌≡◌, ◌+◌, ◌≤◌, ◌<◌, ◌⊎◌, [], ◌++◌, length, IfOk, OnOk, OnErr, Some, IsTrue, false};
 ghost use Rattle.bus_outside.specs.Causes.{HasCause, SameTelling, WriteAdds, one_more, faults_after};
 ghost use Rattle.bus_outside.specs.Memory.{fails_at};

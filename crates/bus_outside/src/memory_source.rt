@@ -1,3 +1,4 @@
+//! A source whose bytes lie in memory, and that fails where a test wants it to.
 ghost use Rattle.std.specs.Prelude.{◌≡◌, min, length, IfOk, OnOk, OnErr, Some, IsTrue, false};
 ghost use Rattle.std.specs.Io.{ReadsAtMost};
 ghost use Rattle.std.specs.Io.KnownBytes.{ReadConsumes};

@@ -106,7 +106,7 @@ taken-data k t loads tick may s (Some order) = done-data k t s (with_loads t.add
 taken-in : (k : ℕ) (t : TerminalData) (loads : List TimedLoad) (memory : Memory) (ticks : List Moment) → IsOfData (taken_of k t loads memory ticks)
 taken-in k t loads memory [] = tt
 taken-in k t loads memory (now ∷ past) =
-    taken-data k t loads (length past) now.may (standing k t loads memory past) (order_now k t (now ∷ past) (standing k t loads memory past))
+    taken-data k t loads (length past) now.has_items (standing k t loads memory past) (order_now k t (now ∷ past) (standing k t loads memory past))
 
 -- the delivery of a block
 delivery-data : (tick : ℕ) (c : Channel) (taken : Option Taken) → IsOfData taken → IsForData (delivery_of tick c taken)

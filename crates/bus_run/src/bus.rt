@@ -27,13 +27,10 @@ use crate::objects::reserve_named;
 use crate::prepare::{ends_of, monitor_of, row_of, wire_of};
 use crate::station_row::StationRow;
 use bus_base::{Pair, Tick};
-use bus_formats::{Attempt, Heard, HeardBurst, Plan, RunLog};
+use bus_formats::{Attempt, ENDING_QUIET, Heard, HeardBurst, Plan, RunLog};
 use bus_station::{Station, the_stations_of_an_accepted_plan_fit};
 use bus_subsystem::Subsystem;
 use std::alloc::{AllocError, Global};
-
-/// A run ends when both channels were quiet for so many ticks and nothing is left to do.
-const ENDING_QUIET: u64 = 80;
 
 /// The stations of a plan over its wire, with a monitor beside them.
 ///

@@ -106,8 +106,8 @@ ordered-may k t loads tick may s (Some order) h = inr (after-may s order _ may (
 
 -- an answer that accepts was owed before the tick, or it was accepted in a tick in which it might
 pub tick-may : (k : ℕ) (t : TerminalData) (loads : List TimedLoad) (now : Moment) (past : List Moment) (s : Standing) →
-    accepting (after_tick k t loads now past s).duty ≡ true → (accepting s.duty ≡ true) ⊎ (now.may ≡ true)
-tick-may k t loads now past s h = ordered-may k t loads (length past) now.may s (order_now k t (now ∷ past) s) h
+    accepting (after_tick k t loads now past s).duty ≡ true → (accepting s.duty ≡ true) ⊎ (now.has_items ≡ true)
+tick-may k t loads now past s h = ordered-may k t loads (length past) now.has_items s (order_now k t (now ∷ past) s) h
 
 -- ---- control is accepted by such an answer
 

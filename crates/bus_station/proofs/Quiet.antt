@@ -42,7 +42,7 @@ pub woken-free : (k : ℕ) (t : TerminalData) (loads : List TimedLoad) (memory :
 woken-free k t loads memory now n =
     ap (λ (s : Standing). s.duty) (standing-tick k t loads memory now (quiet_moments n))
     ∙ ap (λ (s : Standing). (after_tick k t loads now (quiet_moments n) s).duty) (quiet-stands k t loads memory n)
-    ∙ ap (λ (o : Option _). (marked_by k t now (quiet_moments n) (at_rest memory) (ordered k t loads (length (quiet_moments n)) now.may
+    ∙ ap (λ (o : Option _). (marked_by k t now (quiet_moments n) (at_rest memory) (ordered k t loads (length (quiet_moments n)) now.has_items
     (at_rest memory) o)).duty) (woken-order k t memory now n)
 
 -- nor does one that heard quiet ticks
@@ -54,5 +54,5 @@ pub woken-took : (k : ℕ) (t : TerminalData) (loads : List TimedLoad) (memory :
     took_now k t loads (record { memory = memory; ticks = now ∷ ticks }) ≡ None
 woken-took k t loads memory now ticks n rests =
     ap (λ (quiet : List Moment). took_now k t loads (record { memory = memory; ticks = now ∷ quiet })) rests
-    ∙ ap (λ (s : Standing). taken_by k t loads (length (quiet_moments n)) now.may s (order_now k t (now ∷ quiet_moments n) s)) (quiet-stands k t loads memory n)
-    ∙ ap (taken_by k t loads (length (quiet_moments n)) now.may (at_rest memory)) (woken-order k t memory now n)
+    ∙ ap (λ (s : Standing). taken_by k t loads (length (quiet_moments n)) now.has_items s (order_now k t (now ∷ quiet_moments n) s)) (quiet-stands k t loads memory n)
+    ∙ ap (taken_by k t loads (length (quiet_moments n)) now.has_items (at_rest memory)) (woken-order k t memory now n)

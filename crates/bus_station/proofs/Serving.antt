@@ -6,7 +6,7 @@ use Rattle.bus_base.specs.declared.samples.Pair.{Pair}
 use Rattle.bus_formats.specs.Plans.{StationData}
 use Rattle.bus_model.specs.Memory.{TimedLoad}
 use Rattle.bus_model.specs.Orders.{Taken}
-use Rattle.bus_model.specs.Waits.{taking_over}
+use Rattle.bus_formats.specs.Times.{taking_over}
 use Rattle.bus_model.specs.Hearing.{Moment, Hearing}
 use Rattle.bus_model.specs.Terminal.{standing, order_now, took_now, accepted_now, memory_after}
 use Rattle.bus_model.specs.Course.{Take, Course, course, take_control}

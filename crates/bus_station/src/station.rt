@@ -26,14 +26,11 @@ ghost use Rattle.bus_station.specs.declared.event.StationEvent.TheVariants.{Noth
 
 use crate::event::StationEvent;
 use crate::role::Role;
-use bus_base::{Drive, Pair, Sample, Tick};
+use bus_base::{Drive, Pair, Tick};
 use bus_controller::{Agenda, Controller, ControllerEvent};
-use bus_formats::{Attempt, Outcome, StationPlan};
+use bus_formats::{Attempt, Outcome, StationPlan, TAKING_OVER};
 use bus_line::LAG;
 use bus_terminal::{Terminal, TerminalEvent};
-
-/// A terminal that accepted control sends its first command so many ticks after the end of its answer.
-pub const TAKING_OVER: u64 = 40;
 
 /// A terminal and a controller under one address.
 ///
@@ -220,7 +217,7 @@ impl Station {
             TerminalStands LAG plan loads self.old.terminal hearing → length hearing.ticks ≡ now.0 →
             TerminalStands LAG plan loads self.new.terminal (control.hear_more hearing control.unheard) }
     {
-        let _ = self.terminal.hear(now, SILENCE, false);
+        let _ = self.terminal.hear(now, Pair::QUIET, false);
     }
 
     // An attempt ended so in this tick. Where control was yielded in it, the terminal hears it.
@@ -329,12 +326,6 @@ impl Station {
         self.take_over(first);
     }
 }
-
-// What both channels show while nobody sends.
-const SILENCE: Pair = Pair {
-    a: Sample::Quiet,
-    b: Sample::Quiet,
-};
 
 // The controller of a station that starts with control or without.
 fn controller_with(agenda: Agenda, starts: bool) -> Controller

@@ -228,18 +228,13 @@ fn control_is_yielded(rt: HostRuntime) -> Result<(), Fail> {
     Ok(())
 }
 
-const SILENCE: Pair = Pair {
-    a: Sample::Quiet,
-    b: Sample::Quiet,
-};
-
 // A station that serves hears a quiet tick, takes control with its first command in tick 20, and puts up a block for sending.
 fn takes_over(station: &mut Station) -> bool
     requires { HasHeard station.old 0 }
     ensures { HasHeard station.new 1 }
 {
     let before = station.role();
-    station.hear(Tick(0), SILENCE);
+    station.hear(Tick(0), Pair::QUIET);
     if let Role::Serving = before {
         if let Role::Serving = station.role() {
             if station.items_left() > 0 {
@@ -260,7 +255,7 @@ fn first_sent(station: &mut Station) -> Option<u64>
         if station.drive() != Drive::Silent {
             return Some(now);
         }
-        station.hear(Tick(now), SILENCE);
+        station.hear(Tick(now), Pair::QUIET);
     }
     None
 }

@@ -60,13 +60,13 @@ order-ended k terminal heard s o runs_out ends h = h
 pub common-after : (k : ℕ) (terminal : TerminalData) (loads : List TimedLoad) (common : Common) (after : Memory) (ears : Ears) (past : List Moment)
     (now : Moment) (s : Standing) (order : Handled) →
     CommonStands k terminal loads common past s → order_now k terminal (now ∷ past) s ≡ Some order →
-    after ≡ (done_by k terminal s common.memory now.may order).memory →
-    EarsStand k terminal.address ears (now ∷ past) (marked_by k terminal now past s (after_order s order (done_by k terminal s common.memory now.may order))) →
+    after ≡ (done_by k terminal s common.memory now.has_items order).memory →
+    EarsStand k terminal.address ears (now ∷ past) (marked_by k terminal now past s (after_order s order (done_by k terminal s common.memory now.has_items order))) →
     CommonStands k terminal loads (record { plan = common.plan; memory = after; ears = ears }) (now ∷ past)
-    (marked_by k terminal now past s (after_order s order (done_by k terminal s common.memory now.may order)))
+    (marked_by k terminal now past s (after_order s order (done_by k terminal s common.memory now.has_items order)))
 common-after k terminal loads common after ears past now s order st is left hear =
-    let o : Obeyed = done_by k terminal s common.memory now.may order in
-    let same : o.memory.transmit ≡ common.memory.transmit = order-keeps k terminal s common.memory now.may order in
+    let o : Obeyed = done_by k terminal s common.memory now.has_items order in
+    let same : o.memory.transmit ≡ common.memory.transmit = order-keeps k terminal s common.memory now.has_items order in
     let has : with_loads terminal.address (length past) loads o.memory ≡ o.memory =
     absorbed-like terminal.address (length past) loads common.memory o.memory st.absorbed same in
     let has_more : with_loads terminal.address (suc (length past)) loads o.memory ≡ o.memory =
@@ -81,7 +81,7 @@ common-after k terminal loads common after ears past now s order st is left hear
       ears = hear;
       ended = order-ended k terminal (now ∷ past) s o order (now-ends k terminal now past s order is) (omega (arith, st.ended));
       marked = marked-tick k terminal now past s (after_order s order o) (omega (arith, st.fits.lag)) st.marked;
-      newest = newest-order k terminal now past s common.memory now.may order is st.marked st.newest
+      newest = newest-order k terminal now past s common.memory now.has_items order is st.marked st.newest
           (λ c. mark-before k terminal.address common.ears past s c st.ears);
     }
 
@@ -90,18 +90,18 @@ pub acted : (k : ℕ) (terminal : TerminalData) (loads : List TimedLoad) (common
     (now : Moment) (s : Standing) (order : Handled)
     (performed : Performed) (b : Bool) (n : ℕ) →
     CommonStands k terminal loads common past s → order_now k terminal (now ∷ past) s ≡ Some order → n ≡ suc (length past) →
-    PerformedIs performed after s order (done_by k terminal s common.memory now.may order) →
-    EarsStand k terminal.address ears (now ∷ past) (marked_by k terminal now past s (after_order s order (done_by k terminal s common.memory now.may order))) →
-    b ≡ superseded k (marked_by k terminal now past s (after_order s order (done_by k terminal s common.memory now.may order))) →
+    PerformedIs performed after s order (done_by k terminal s common.memory now.has_items order) →
+    EarsStand k terminal.address ears (now ∷ past) (marked_by k terminal now past s (after_order s order (done_by k terminal s common.memory now.has_items order))) →
+    b ≡ superseded k (marked_by k terminal now past s (after_order s order (done_by k terminal s common.memory now.has_items order))) →
     StateStands k terminal loads
     (stands_told (record { plan = common.plan; memory = after; ears = ears }) b n performed.channel performed.end performed.part performed.done.duty)
-    (now ∷ past) (marked_by k terminal now past s (after_order s order (done_by k terminal s common.memory now.may order)))
+    (now ∷ past) (marked_by k terminal now past s (after_order s order (done_by k terminal s common.memory now.has_items order)))
 acted k terminal loads common after ears past now s order performed b n st is here does hear is_b =
-    let o : Obeyed = done_by k terminal s common.memory now.may order in
+    let o : Obeyed = done_by k terminal s common.memory now.has_items order in
     let leaves = order-leaves s order o in
     let left : Standing = marked_by k terminal now past s (after_order s order o) in
     let recent : Recent k (now ∷ past) left =
-    order-recent k terminal now past s common.memory now.may order st.fits.prompt (now-ends k terminal now past s order is)
+    order-recent k terminal now past s common.memory now.has_items order st.fits.prompt (now-ends k terminal now past s order is)
     (now-newer k terminal now past s order st.marked is) in
     left-stands k terminal loads (record { plan = common.plan; memory = after; ears = ears }) n
     (now ∷ past) left performed.channel performed.end performed.part performed.done.duty b

@@ -13,7 +13,7 @@ use Rattle.bus_line.proofs.PastLaws.{runs-parts, runs-pulse, rests-parts, rests-
 use Rattle.bus_line.proofs.SlotLaws.{burst-first}
 use Rattle.bus_line.proofs.CutNow.{ended-more}
 use Rattle.bus_formats.specs.Plans.{TerminalData}
-use Rattle.bus_model.specs.Waits.{relay_wait}
+use Rattle.bus_formats.specs.Times.{relay_wait}
 use Rattle.bus_model.specs.Memory.{TimedLoad}
 use Rattle.bus_model.specs.Orders.{Order, last_order}
 use Rattle.bus_model.specs.Hearing.{Moment, heard_on}

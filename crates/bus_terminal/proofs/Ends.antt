@@ -11,7 +11,7 @@ use Rattle.bus_line.specs.Past.{Burst, quiet, stopped, newest_burst, ended_now, 
 use Rattle.bus_line.specs.Bursts.{IsEndedNow}
 use Rattle.bus_line.proofs.LookUpLaws.{ended-known}
 use Rattle.bus_formats.specs.Plans.{TerminalData}
-use Rattle.bus_model.specs.Waits.{relay_wait}
+use Rattle.bus_formats.specs.Times.{relay_wait}
 use Rattle.bus_model.specs.Orders.{Order, last_order}
 use Rattle.bus_model.specs.Hearing.{Moment, heard_on}
 use Rattle.bus_model.specs.Standing.{Standing, obeys, settles, runs_out, Handled, ignored_from, mark_on, outrun, superseded, promised_on, is_promise}

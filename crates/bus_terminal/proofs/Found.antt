@@ -11,7 +11,7 @@ use Rattle.bus_ears.specs.Ears.{Holds, IsHeard, IsToldBurst, AreTold}
 use Rattle.bus_ears.specs.declared.ear.Heard.{Heard}
 use Rattle.bus_ears.specs.declared.ear.HeardBurst.{HeardBurst}
 use Rattle.bus_ears.specs.declared.ear.TheConstants.{MOST_SLOTS}
-use Rattle.bus_model.specs.Waits.{relay_wait}
+use Rattle.bus_formats.specs.Times.{relay_wait}
 use Rattle.bus_model.specs.Orders.{last_order}
 use Rattle.bus_model.specs.Hearing.{Moment, heard_on}
 use Rattle.bus_model.specs.Standing.{Standing, obeys, settles, mark_on, ignored_from, outrun, superseded, promised_on, is_promise}

@@ -105,7 +105,7 @@ standing-load k terminal loads load memory [] h = refl
 standing-load k terminal loads load memory (now ∷ past) h =
     let s : Standing = standing k terminal loads memory past in
     ap (after_tick k terminal (loads ++ load ∷ []) now past) (standing-load k terminal loads load memory past (omega (arith, h)))
-    ∙ ap (marked_by k terminal now past s) (ordered-load k terminal loads load (length past) now.may s (order_now k terminal (now ∷ past) s) (omega (arith, h)))
+    ∙ ap (marked_by k terminal now past s) (ordered-load k terminal loads load (length past) now.has_items s (order_now k terminal (now ∷ past) s) (omega (arith, h)))
 
 pub common-timed : (k : ℕ) (terminal : TerminalData) (loads : List TimedLoad) (load : TimedLoad) (common : Common) (past : List Moment) (s : Standing) →
     CommonStands k terminal loads common past s → load.address ≡ terminal.address → load.tick < length past →

@@ -10,7 +10,7 @@ use Rattle.bus_line.specs.Past.{Burst, ended_now, end_of, rest_of, heard_within}
 use Rattle.bus_line.specs.Cutting.{running_slots}
 use Rattle.bus_line.proofs.CollectLaws.{end-closes}
 use Rattle.bus_formats.specs.Plans.{TerminalData}
-use Rattle.bus_model.specs.Waits.{relay_wait}
+use Rattle.bus_formats.specs.Times.{relay_wait}
 use Rattle.bus_model.specs.Memory.{Memory}
 use Rattle.bus_model.specs.Orders.{Duty, free, owes, promises, Order, last_order}
 use Rattle.bus_model.specs.Hearing.{Moment, heard_on}

@@ -23,17 +23,17 @@ use Rattle.bus_terminal.proofs.Acting.{acted}
 -- a tick with an order
 tick-is : (k : ℕ) (terminal : TerminalData) (loads : List TimedLoad) (before : Common) (past : List Moment) (now : Moment) (s : Standing) (order : Handled) →
     CommonStands k terminal loads before past s → order_now k terminal (now ∷ past) s ≡ Some order →
-    after_tick k terminal loads now past s ≡ marked_by k terminal now past s (after_order s order (done_by k terminal s before.memory now.may order))
+    after_tick k terminal loads now past s ≡ marked_by k terminal now past s (after_order s order (done_by k terminal s before.memory now.has_items order))
 tick-is k terminal loads before past now s order st is =
-    ap (λ (o : Option Handled). marked_by k terminal now past s (ordered k terminal loads (length past) now.may s o)) is
-    ∙ ap (λ (m : Memory). marked_by k terminal now past s (after_order s order (done_by k terminal s m now.may order))) (sym st.memory)
+    ap (λ (o : Option Handled). marked_by k terminal now past s (ordered k terminal loads (length past) now.has_items s o)) is
+    ∙ ap (λ (m : Memory). marked_by k terminal now past s (after_order s order (done_by k terminal s m now.has_items order))) (sym st.memory)
 
 taken-is : (k : ℕ) (terminal : TerminalData) (loads : List TimedLoad) (before : Common) (past : List Moment) (now : Moment) (s : Standing) (order : Handled) →
     CommonStands k terminal loads before past s → order_now k terminal (now ∷ past) s ≡ Some order →
-    taken_by k terminal loads (length past) now.may s (order_now k terminal (now ∷ past) s) ≡ (done_by k terminal s before.memory now.may order).taken
+    taken_by k terminal loads (length past) now.has_items s (order_now k terminal (now ∷ past) s) ≡ (done_by k terminal s before.memory now.has_items order).taken
 taken-is k terminal loads before past now s order st is =
-    ap (λ (o : Option Handled). taken_by k terminal loads (length past) now.may s o) is
-    ∙ ap (λ (m : Memory). (done_by k terminal s m now.may order).taken) (sym st.memory)
+    ap (λ (o : Option Handled). taken_by k terminal loads (length past) now.has_items s o) is
+    ∙ ap (λ (m : Memory). (done_by k terminal s m now.has_items order).taken) (sym st.memory)
 
 event-taken : (tick : ℕ) (c : Channel) (t : Option Taken) (o : Option orders.Taken) → taken_meant t ≡ o → TakenIs (event_told tick c t) tick c o
 event-taken tick c None o e = sym e
@@ -54,7 +54,7 @@ pub next-stands : (k : ℕ) (terminal : TerminalData) (loads : List TimedLoad) (
     (performed : Performed) (b may : Bool) (n tick : ℕ) (state : TerminalState) (event : TerminalEvent) →
     CommonStands k terminal loads before past s → order_now k terminal (now ∷ past) s ≡ Some order → common.plan ≡ before.plan → common.memory ≡ before.memory →
     ((after : Standing) → EarsStand k terminal.address common.ears (now ∷ past) (marked_by k terminal now past s after)) → tick ≡ length past →
-    now.may ≡ may → n ≡ suc tick →
+    now.has_items ≡ may → n ≡ suc tick →
     PerformedIs performed memory s order (done_by k common.plan s common.memory may order) →
     ((left : Standing) → EarsStand k terminal.address common.ears (now ∷ past) left → left.channel ≡ performed.channel → left.end ≡ performed.end →
     b ≡ superseded k left) →
@@ -64,7 +64,7 @@ pub next-stands : (k : ℕ) (terminal : TerminalData) (loads : List TimedLoad) (
     NextStands k terminal loads (record { state = state; event = event }) past now s None
 next-stands k terminal loads before common memory past now s order performed b may n tick state event st is plan kept hear here may_is after_now does
     newer state_is event_is =
-    let o : Obeyed = done_by k terminal s before.memory now.may order in
+    let o : Obeyed = done_by k terminal s before.memory now.has_items order in
     let same : done_by k common.plan s common.memory may order ≡ o =
     ap (λ (p : TerminalData). done_by k p s common.memory may order) (plan ∙ st.plan)
     ∙ ap (λ (m : Memory). done_by k terminal s m may order) kept

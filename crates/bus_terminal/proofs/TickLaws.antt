@@ -6,7 +6,7 @@ use Rattle.bus_line.specs.Past.{end_since}
 use Rattle.bus_line.specs.Bursts.{IsHeardAt}
 use Rattle.bus_line.proofs.EndLaws.{end_since-none}
 use Rattle.bus_formats.specs.Plans.{TerminalData}
-use Rattle.bus_model.specs.Waits.{relay_wait}
+use Rattle.bus_formats.specs.Times.{relay_wait}
 use Rattle.bus_model.specs.Memory.{TimedLoad}
 use Rattle.bus_model.specs.Orders.{Duty, free, owes, promises, due_after}
 use Rattle.bus_model.specs.Hearing.{Moment, heard_on}

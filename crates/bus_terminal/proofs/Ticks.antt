@@ -62,12 +62,12 @@ handled-fits k heard s (told.RunsOut w) (settles end slots rest) is ends low sma
 pub tick-none : (k : ℕ) (terminal : TerminalData) (loads : List TimedLoad) (past : List Moment) (now : Moment) (s : Standing) →
     order_now k terminal (now ∷ past) s ≡ None →
     after_tick k terminal loads now past s ≡ marked_by k terminal now past s s
-tick-none k terminal loads past now s e = ap (λ (o : Option Handled). marked_by k terminal now past s (ordered k terminal loads (length past) now.may s o)) e
+tick-none k terminal loads past now s e = ap (λ (o : Option Handled). marked_by k terminal now past s (ordered k terminal loads (length past) now.has_items s o)) e
 
 pub taken-none : (k : ℕ) (terminal : TerminalData) (loads : List TimedLoad) (past : List Moment) (now : Moment) (s : Standing) →
     order_now k terminal (now ∷ past) s ≡ None →
-    taken_by k terminal loads (length past) now.may s (order_now k terminal (now ∷ past) s) ≡ None
-taken-none k terminal loads past now s e = ap (λ (o : Option Handled). taken_by k terminal loads (length past) now.may s o) e
+    taken_by k terminal loads (length past) now.has_items s (order_now k terminal (now ∷ past) s) ≡ None
+taken-none k terminal loads past now s e = ap (λ (o : Option Handled). taken_by k terminal loads (length past) now.has_items s o) e
 
 pub common-same : (k : ℕ) (terminal : TerminalData) (loads : List TimedLoad) (common : Common) (ears : Ears) (past : List Moment) (now : Moment)
     (s : Standing) →

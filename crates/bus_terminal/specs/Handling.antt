@@ -8,7 +8,7 @@ use Rattle.bus_words.specs.declared.word.Word.{Word}
 use Rattle.bus_ears.specs.declared.ear.Heard.{Heard}
 use Rattle.bus_ears.specs.declared.ear.HeardBurst.{HeardBurst}
 use Rattle.bus_ears.specs.declared.ear.TheConstants.{MOST_SLOTS}
-use Rattle.bus_model.specs.Waits.{relay_wait}
+use Rattle.bus_formats.specs.Times.{relay_wait}
 use Rattle.bus_model.specs.Memory.{Memory}
 use Rattle.bus_model.specs.Orders.{promises, Obeyed}
 use Rattle.bus_model.specs.Standing.{Standing, obeys, settles, runs_out, promised_on, is_owed}

@@ -5,7 +5,7 @@ use Rattle.bus_model.specs.Hearing.{Moment}
 
 -- so many ticks in which both channels were quiet
 abbrev pub quiet_moment : Moment
-quiet_moment = record { shown = record { a = Quiet; b = Quiet }; may = false }
+quiet_moment = record { shown = record { a = Quiet; b = Quiet }; has_items = false }
 
 abbrev pub quiet_moments : ℕ → List Moment
 quiet_moments zero = []

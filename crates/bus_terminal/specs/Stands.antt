@@ -5,7 +5,7 @@ use Rattle.bus_base.specs.declared.samples.Sample.{Sample}
 use Rattle.bus_line.specs.Past.{heard_within, runs, first_tick}
 use Rattle.bus_formats.specs.Plans.{TerminalData}
 use Rattle.bus_formats.specs.Times.{dead_ticks}
-use Rattle.bus_model.specs.Waits.{relay_wait}
+use Rattle.bus_formats.specs.Times.{relay_wait}
 use Rattle.bus_model.specs.Memory.{Memory, TimedLoad, with_loads}
 use Rattle.bus_model.specs.Orders.{Duty, free, owes, promises, due_after, Taken}
 use Rattle.bus_model.specs.Hearing.{Moment, heard_on}
@@ -130,7 +130,7 @@ pub record NextStands (k : ℕ) (terminal : TerminalData) (loads : List TimedLoa
     (s : Standing) (end : Option ℕ) : Type 0 where
   pub state : StateStands k terminal loads next.state (now ∷ past) (after_tick k terminal loads now past s)
   pub taken : TakenIs next.event (length past) (channel_of s (order_now k terminal (now ∷ past) s))
-      (taken_by k terminal loads (length past) now.may s (order_now k terminal (now ∷ past) s))
+      (taken_by k terminal loads (length past) now.has_items s (order_now k terminal (now ∷ past) s))
   pub accepted : AcceptedIs next.event end
 
 -- a state that listens as after quiet ticks, with the plan and the memory of another

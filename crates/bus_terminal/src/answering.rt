@@ -41,8 +41,8 @@ impl Answering {
             × AnsweringStands LAG terminal loads self.old past s × (length past ≡ now.0) × (now.0 < 2 ^ 60) }
         ensures { (terminal : TerminalData) (loads : List TimedLoad) (past : List Moment) (s : Standing) (may : Bool) →
             AnsweringStands LAG terminal loads self.old past s → length past ≡ now.0 →
-            AfterStep LAG terminal loads (TerminalState.Answering self.new) result past (record { shown = heard; may = may }) s
-            (accepted_on LAG terminal loads (record { shown = heard; may = may }) past s) }
+            AfterStep LAG terminal loads (TerminalState.Answering self.new) result past (record { shown = heard; has_items = may }) s
+            (accepted_on LAG terminal loads (record { shown = heard; has_items = may }) past s) }
     {
         let begins = begins_in(self.sent, self.sends.channel);
         let both = self.common.listen(now.0, heard, begins);
@@ -62,7 +62,7 @@ impl Answering {
         requires { (terminal : TerminalData) × (loads : List TimedLoad) × (before : AnsweringData) × (past : List Moment) × (moment : Moment) × (s : Standing)
             × AnsweringHeard LAG terminal loads before self both past moment s × (length past ≡ now.0) × (now.0 < 2 ^ 60) }
         ensures { (terminal : TerminalData) (loads : List TimedLoad) (before : AnsweringData) (past : List Moment) (moment : Moment) (s : Standing) →
-            AnsweringHeard LAG terminal loads before self both past moment s → length past ≡ now.0 → moment.may ≡ may_accept →
+            AnsweringHeard LAG terminal loads before self both past moment s → length past ≡ now.0 → moment.has_items ≡ may_accept →
             NextStands LAG terminal loads result past moment s (accepted_on LAG terminal loads moment past s) }
     {
         let mut common = self.common;

@@ -11,7 +11,7 @@ ghost use Rattle.bus_terminal.specs.Handling as spec;
 use crate::common::{BothHeard, Ears, Listened};
 use bus_base::{Channel, Part};
 use bus_ears::{Ear, Heard, HeardBurst, HeardTick};
-use bus_formats::TerminalPlan;
+use bus_formats::{RELAY_WAIT, TerminalPlan};
 use bus_orders::{Done, Memory, Promise, keep_promise, obey, unkept};
 use bus_words::Command;
 
@@ -39,9 +39,6 @@ pub struct Performed {
     pub(crate) part: Part,
     pub(crate) done: Done,
 }
-
-/// A relay's receiver waits for so many dead ticks.
-pub const RELAY_WAIT: u64 = 30;
 
 /// Whether something is handled in the newest tick, where a promise may stand that may run out in it.
 #[inline(always)]

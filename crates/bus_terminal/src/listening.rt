@@ -31,8 +31,8 @@ impl Listening {
             × ListeningStands LAG terminal loads self.old past s × (length past ≡ now.0) × (now.0 < 2 ^ 60) }
         ensures { (terminal : TerminalData) (loads : List TimedLoad) (past : List Moment) (s : Standing) (may : Bool) →
             ListeningStands LAG terminal loads self.old past s → length past ≡ now.0 →
-            AfterStep LAG terminal loads (TerminalState.Listening self.new) result past (record { shown = heard; may = may }) s
-            (accepted_on LAG terminal loads (record { shown = heard; may = may }) past s) }
+            AfterStep LAG terminal loads (TerminalState.Listening self.new) result past (record { shown = heard; has_items = may }) s
+            (accepted_on LAG terminal loads (record { shown = heard; has_items = may }) past s) }
     {
         let both = self.common.listen(now.0, heard, None);
         Step::of(is_found(&self.common.ears, both, &None, false), both)
@@ -43,7 +43,7 @@ impl Listening {
         requires { (terminal : TerminalData) × (loads : List TimedLoad) × (before : ListeningData) × (past : List Moment) × (moment : Moment) × (s : Standing)
             × ListeningHeard LAG terminal loads before self both past moment s × (length past ≡ now.0) × (now.0 < 2 ^ 60) }
         ensures { (terminal : TerminalData) (loads : List TimedLoad) (before : ListeningData) (past : List Moment) (moment : Moment) (s : Standing) →
-            ListeningHeard LAG terminal loads before self both past moment s → length past ≡ now.0 → moment.may ≡ may_accept →
+            ListeningHeard LAG terminal loads before self both past moment s → length past ≡ now.0 → moment.has_items ≡ may_accept →
             NextStands LAG terminal loads result past moment s (accepted_on LAG terminal loads moment past s) }
     {
         let mut common = self.common;

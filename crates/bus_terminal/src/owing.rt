@@ -33,8 +33,8 @@ impl Owing {
             × (length past ≡ now.0) × (now.0 < 2 ^ 60) }
         ensures { (terminal : TerminalData) (loads : List TimedLoad) (past : List Moment) (s : Standing) (may : Bool) →
             OwingStands LAG terminal loads self.old past s → length past ≡ now.0 →
-            AfterStep LAG terminal loads (TerminalState.Owing self.new) result past (record { shown = heard; may = may }) s
-            (accepted_on LAG terminal loads (record { shown = heard; may = may }) past s) }
+            AfterStep LAG terminal loads (TerminalState.Owing self.new) result past (record { shown = heard; has_items = may }) s
+            (accepted_on LAG terminal loads (record { shown = heard; has_items = may }) past s) }
     {
         let both = self.common.listen(now.0, heard, None);
         let handled = is_found(&self.common.ears, both, &None, false);
@@ -59,7 +59,7 @@ impl Owing {
         requires { (terminal : TerminalData) × (loads : List TimedLoad) × (before : OwingData) × (past : List Moment) × (moment : Moment) × (s : Standing)
             × OwingHeard LAG terminal loads before self both past moment s × (length past ≡ now.0) × (now.0 < 2 ^ 60) }
         ensures { (terminal : TerminalData) (loads : List TimedLoad) (before : OwingData) (past : List Moment) (moment : Moment) (s : Standing) →
-            OwingHeard LAG terminal loads before self both past moment s → length past ≡ now.0 → moment.shown ≡ heard → moment.may ≡ may_accept →
+            OwingHeard LAG terminal loads before self both past moment s → length past ≡ now.0 → moment.shown ≡ heard → moment.has_items ≡ may_accept →
             NextStands LAG terminal loads result past moment s (accepted_on LAG terminal loads moment past s) }
     {
         let mut common = self.common;

@@ -2,7 +2,7 @@
 ghost use Rattle.std.specs.Prelude.{◌≡◌, ◌<◌, ◌^◌, ◌+◌, ◌==◌, ◌&&◌, ◌||◌, not, ℕ, Bool, List, length};
 ghost use Rattle.bus_line.specs.declared.cutter.TheConstants.{LAG};
 ghost use Rattle.bus_formats.specs.Plans.{TerminalData};
-ghost use Rattle.bus_model.specs.Waits.{relay_wait};
+ghost use Rattle.bus_formats.specs.Times.{relay_wait};
 ghost use Rattle.bus_model.specs.Memory.{TimedLoad};
 ghost use Rattle.bus_model.specs.Hearing.{Moment};
 ghost use Rattle.bus_model.specs.Standing.{Standing};
@@ -14,9 +14,10 @@ ghost use Rattle.bus_terminal.specs.Steps.{promised_on_told};
 
 use crate::Listening;
 use crate::common::{BothHeard, Common, either, is_heard};
-use crate::handling::{RELAY_WAIT, Waiting, found, is_found};
+use crate::handling::{Waiting, found, is_found};
 use crate::state::{Step, TerminalEvent, TerminalNext, TerminalState, act};
 use bus_base::{Pair, Tick};
+use bus_formats::RELAY_WAIT;
 use bus_orders::Promise;
 
 /// It takes the next burst on the promise's channel, if that begins after at most 30 dead ticks. At most 30 passed since the end of the relay's
@@ -38,8 +39,8 @@ impl Promised {
             × PromisedStands LAG terminal loads self.old past s × (length past ≡ now.0) × (now.0 < 2 ^ 60) }
         ensures { (terminal : TerminalData) (loads : List TimedLoad) (past : List Moment) (s : Standing) (may : Bool) →
             PromisedStands LAG terminal loads self.old past s → length past ≡ now.0 →
-            AfterStep LAG terminal loads (TerminalState.Promised self.new) result past (record { shown = heard; may = may }) s
-            (accepted_on LAG terminal loads (record { shown = heard; may = may }) past s) }
+            AfterStep LAG terminal loads (TerminalState.Promised self.new) result past (record { shown = heard; has_items = may }) s
+            (accepted_on LAG terminal loads (record { shown = heard; has_items = may }) past s) }
     {
         let both = self.common.listen(now.0, heard, None);
         self.heard = either(self.heard, is_heard(heard, self.waiting.channel));
@@ -57,7 +58,7 @@ impl Promised {
         requires { (terminal : TerminalData) × (loads : List TimedLoad) × (before : PromisedData) × (past : List Moment) × (moment : Moment) × (s : Standing)
             × PromisedHeard LAG terminal loads before self both past moment s × (length past ≡ now.0) × (now.0 < 2 ^ 60) }
         ensures { (terminal : TerminalData) (loads : List TimedLoad) (before : PromisedData) (past : List Moment) (moment : Moment) (s : Standing) →
-            PromisedHeard LAG terminal loads before self both past moment s → length past ≡ now.0 → moment.may ≡ may_accept →
+            PromisedHeard LAG terminal loads before self both past moment s → length past ≡ now.0 → moment.has_items ≡ may_accept →
             NextStands LAG terminal loads result past moment s (accepted_on LAG terminal loads moment past s) }
     {
         let mut common = self.common;

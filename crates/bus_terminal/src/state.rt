@@ -169,7 +169,7 @@ pub(crate) fn act(common: Common, now: u64, handled: Handled, may_accept: bool) 
         stands.CommonStands LAG terminal loads before past s → order_now LAG terminal (moment ∷ past) s ≡ Some order →
         handling.HandledIs handled order s → common.plan ≡ before.plan → common.memory ≡ before.memory →
         ((after : Standing) → EarsStand LAG terminal.address common.ears (moment ∷ past) (marked_by LAG terminal moment past s after)) →
-        now ≡ length past → moment.may ≡ may_accept → stands.NextStands LAG terminal loads result past moment s None }
+        now ≡ length past → moment.has_items ≡ may_accept → stands.NextStands LAG terminal loads result past moment s None }
 {
     let mut common = common;
     let mut performed = perform(&common.plan, &mut common.memory, handled, may_accept);
@@ -189,8 +189,8 @@ impl TerminalState {
             × stands.StateStands LAG terminal loads self.old past s × (length past ≡ now.0) × (now.0 < 2 ^ 60) }
         ensures { (terminal : TerminalData) (loads : List TimedLoad) (past : List Moment) (s : Standing) (may : Bool) →
             stands.StateStands LAG terminal loads self.old past s → length past ≡ now.0 →
-            AfterStep LAG terminal loads self.new result past (record { shown = heard; may = may }) s
-            (accepted_on LAG terminal loads (record { shown = heard; may = may }) past s) }
+            AfterStep LAG terminal loads self.new result past (record { shown = heard; has_items = may }) s
+            (accepted_on LAG terminal loads (record { shown = heard; has_items = may }) past s) }
     {
         match self {
             TerminalState::Listening(state) => state.listen(now, heard),
@@ -211,7 +211,7 @@ impl TerminalState {
         requires { (terminal : TerminalData) × (loads : List TimedLoad) × (past : List Moment) × (moment : Moment) × (s : Standing)
             × StateHeard LAG terminal loads self both past moment s × (length past ≡ now.0) × (now.0 < 2 ^ 60) }
         ensures { (terminal : TerminalData) (loads : List TimedLoad) (past : List Moment) (moment : Moment) (s : Standing) →
-            StateHeard LAG terminal loads self both past moment s → length past ≡ now.0 → moment.shown ≡ heard → moment.may ≡ may_accept →
+            StateHeard LAG terminal loads self both past moment s → length past ≡ now.0 → moment.shown ≡ heard → moment.has_items ≡ may_accept →
             stands.NextStands LAG terminal loads result past moment s (accepted_on LAG terminal loads moment past s) }
     {
         match self {

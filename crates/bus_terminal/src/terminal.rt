@@ -57,16 +57,16 @@ impl Terminal {
             × (length hearing.ticks ≡ now.0) × (now.0 < 2 ^ 60) }
         ensures stands { (plan : TerminalData) (loads : List TimedLoad) (hearing : Hearing) → TerminalStands LAG plan loads self.old hearing →
             length hearing.ticks ≡ now.0 →
-            TerminalStands LAG plan loads self.new (record hearing { ticks = record { shown = heard; may = may_accept } ∷ hearing.ticks }) }
+            TerminalStands LAG plan loads self.new (record hearing { ticks = record { shown = heard; has_items = may_accept } ∷ hearing.ticks }) }
         ensures took { (plan : TerminalData) (loads : List TimedLoad) (hearing : Hearing) → TerminalStands LAG plan loads self.old hearing →
             length hearing.ticks ≡ now.0 →
             TakenIs result now.0
             (channel_of (standing LAG plan loads hearing.memory hearing.ticks)
-            (order_now LAG plan (record { shown = heard; may = may_accept } ∷ hearing.ticks) (standing LAG plan loads hearing.memory hearing.ticks)))
-            (took_now LAG plan loads (record hearing { ticks = record { shown = heard; may = may_accept } ∷ hearing.ticks })) }
+            (order_now LAG plan (record { shown = heard; has_items = may_accept } ∷ hearing.ticks) (standing LAG plan loads hearing.memory hearing.ticks)))
+            (took_now LAG plan loads (record hearing { ticks = record { shown = heard; has_items = may_accept } ∷ hearing.ticks })) }
         ensures accepted { (plan : TerminalData) (loads : List TimedLoad) (hearing : Hearing) → TerminalStands LAG plan loads self.old hearing →
             length hearing.ticks ≡ now.0 →
-            AcceptedIs result (accepted_now LAG plan loads (record hearing { ticks = record { shown = heard; may = may_accept } ∷ hearing.ticks })) }
+            AcceptedIs result (accepted_now LAG plan loads (record hearing { ticks = record { shown = heard; has_items = may_accept } ∷ hearing.ticks })) }
     {
         self.step(now, heard, may_accept)
     }
@@ -148,8 +148,8 @@ impl Terminal {
         ensures { (terminal : TerminalData) (loads : List TimedLoad) (past : List Moment) (s : Standing) →
             StateStands LAG terminal loads self.old.state past s →
             length past ≡ now.0 → NextStands LAG terminal loads (record { state = self.new.state; event = result })
-            past (record { shown = heard; may = may_accept }) s
-            (accepted_on LAG terminal loads (record { shown = heard; may = may_accept }) past s) }
+            past (record { shown = heard; has_items = may_accept }) s
+            (accepted_on LAG terminal loads (record { shown = heard; has_items = may_accept }) past s) }
     {
         match self.state.listen(now, heard) {
             Step::Stays => TerminalEvent::Nothing,
@@ -162,7 +162,7 @@ impl Terminal {
         requires { (terminal : TerminalData) × (loads : List TimedLoad) × (past : List Moment) × (moment : Moment) × (s : Standing)
             × StateHeard LAG terminal loads self.old.state both past moment s × (length past ≡ now.0) × (now.0 < 2 ^ 60) }
         ensures { (terminal : TerminalData) (loads : List TimedLoad) (past : List Moment) (moment : Moment) (s : Standing) →
-            StateHeard LAG terminal loads self.old.state both past moment s → length past ≡ now.0 → moment.shown ≡ heard → moment.may ≡ may_accept →
+            StateHeard LAG terminal loads self.old.state both past moment s → length past ≡ now.0 → moment.shown ≡ heard → moment.has_items ≡ may_accept →
             NextStands LAG terminal loads (record { state = self.new.state; event = result }) past moment s (accepted_on LAG terminal loads moment past s) }
     {
         core::mem::replace_with(

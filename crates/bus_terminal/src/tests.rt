@@ -164,10 +164,7 @@ fn drives_word(terminal: &mut Terminal, channel: Channel, word: Word, first: u64
     for place in 0..40u64 {
         let driven = terminal.drive();
         let wanted = samples[place as usize];
-        let mut heard = Pair {
-            a: Sample::Quiet,
-            b: Sample::Quiet,
-        };
+        let mut heard = Pair::QUIET;
         match driven {
             Drive::On {
                 channel: on,

@@ -1,5 +1,5 @@
 -- The pieces of which printed lines are made: numbers, words, channels, outcomes, and the line of a word heard.
-use Rattle.std.specs.Prelude.{ℕ, ◌+◌, ◌/◌, ◌%◌, nat_lt, if◌then◌else◌, List, [], ◌∷◌, ◌++◌, map, flat_map, filter_map, codes, decimal, Option, Some, None}
+use Rattle.std.specs.Prelude.{ℕ, ◌+◌, ◌/◌, ◌%◌, nat_lt, if◌then◌else◌, List, [], ◌∷◌, ◌++◌, map, flat_map, codes, decimal, Option, Some, None}
 use Rattle.std.specs.List.{join_with_byte}
 use Rattle.bus_base.specs.declared.samples.Channel.{Channel}
 use Rattle.bus_base.specs.declared.samples.Channel.TheVariants.{A, B}
@@ -7,8 +7,7 @@ use Rattle.bus_base.specs.declared.samples.Part.{Part}
 use Rattle.bus_base.specs.declared.samples.Part.TheVariants as parts
 use Rattle.bus_words.specs.declared.word.Sync.{Sync}
 use Rattle.bus_words.specs.declared.word.Sync.TheVariants as syncs
-use Rattle.bus_formats.specs.Forms.{command_words}
-use Rattle.bus_formats.specs.Readings.{command_with}
+use Rattle.bus_formats.specs.Forms.{commands_of}
 use Rattle.bus_formats.specs.declared.form.Outcome.{Outcome}
 use Rattle.bus_formats.specs.declared.form.Outcome.TheVariants.{Clear, Sent, Declined, Passed, Illegal, Busy, NoResponse, BadReply, Abandoned, Yielded}
 use Rattle.bus_formats.specs.declared.log.Heard.{Heard}
@@ -63,10 +62,6 @@ outcome_text (NoResponse part) = codes " no-response" ++ number (part_number par
 outcome_text (BadReply part) = codes " bad-reply" ++ number (part_number part)
 outcome_text Abandoned = codes " abandoned"
 outcome_text Yielded = codes " yielded"
-
--- the command words of a message
-abbrev pub commands_of : Kind → List ℕ
-commands_of kind = filter_map (λ w. command_with w.sync w.bits) (command_words kind)
 
 -- the command words of a message after a space, a relay's two joined by a plus sign
 abbrev pub commands_text : Kind → List ℕ

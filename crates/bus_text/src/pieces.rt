@@ -1,14 +1,13 @@
 //! The phrases of printed lines: channels, outcomes, statuses, the command words of a message, and the line of a word heard.
 
-ghost use Rattle.std.specs.Prelude.{◌≡◌, ◌+◌, ◌*◌, ◌%◌, ◌≤◌, ◌++◌, ℕ, List, length};
+ghost use Rattle.std.specs.Prelude.{◌≡◌, ◌+◌, ◌*◌, ◌≤◌, ◌++◌, ℕ, List, length};
 ghost use Rattle.bus_text.specs.Texts.{channel_text, outcome_text, sync_text, status_text, words_text, part_number, number as number_text, word_line, commands_text};
 ghost use Rattle.bus_formats.specs.Accepted.{HasKindRanges};
-ghost use Rattle.bus_words.specs.Fields.{command_bits};
 
 use crate::Line;
 use bus_base::{Channel, Part};
-use bus_formats::{Heard, Kind, Outcome};
-use bus_words::{Command, Status, Sync};
+use bus_formats::{Heard, Kind, Outcome, first_command, second_command};
+use bus_words::{Status, Sync};
 
 impl Line {
     /// The line of a word heard: its first tick, its channel, its sync and its sixteen bits.
@@ -88,31 +87,10 @@ impl Line {
         ensures text { self.new ≡ self.old ++ commands_text kind.now }
         ensures grows { length self.new ≤ length self.old + 10 }
     {
-        match kind {
-            Kind::Receive { to, sub, words } => {
-                self.word(data_command(*to, false, *sub, words.words().len() as u8));
-            }
-            Kind::Transmit { from, sub, count } => self.word(data_command(
-                *from, true, *sub, *count,
-            )),
-            Kind::Relay {
-                from,
-                from_sub,
-                to,
-                to_sub,
-                count,
-            } => {
-                self.word(data_command(*to, false, *to_sub, *count));
-                self.text("+");
-                self.hex(data_command(*from, true, *from_sub, *count));
-            }
-            Kind::Mode {
-                to,
-                mode_sub,
-                transmit,
-                code,
-                ..
-            } => self.word(Command::make(*to, *transmit, *mode_sub, *code).bits()),
+        self.word(first_command(kind).bits());
+        if let Some(second) = second_command(kind) {
+            self.text("+");
+            self.hex(second.bits());
         }
     }
 
@@ -140,14 +118,6 @@ impl Line {
         self.text(" words");
         self.words(words);
     }
-}
-
-// The bits of a command for so many words, of which 32 are written as 0.
-fn data_command(address: u8, transmit: bool, sub: u8, count: u8) -> u16
-    requires ranges { (address ≤ 31) × (sub ≤ 31) }
-    ensures { result ≡ command_bits address transmit sub (count % 32) }
-{
-    Command::make(address, transmit, sub, count % 32).bits()
 }
 
 // The number that is printed for a part of a message.

@@ -6,15 +6,9 @@ ghost use Rattle.bus_outside.specs.Causes.{WriteAdds, HasCause};
 ghost use Rattle.bus_tool.specs.CaptureWriters.{begun_of, CaptureWriterStands, TookTick};
 
 use arrayvec::ArrayVec;
-use bus_base::{Pair, Sample};
+use bus_base::Pair;
 use bus_capture::capture_line;
 use bus_outside::{Failed, Sink};
-
-// A tick in which both channels are quiet.
-const QUIET: Pair = Pair {
-    a: Sample::Quiet,
-    b: Sample::Quiet,
-};
 
 /// Writes the ticks of a capture, a line for each 64 of them. It keeps the ticks of the line that is begun, and takes no memory.
 #[derive(Drop)]
@@ -31,7 +25,7 @@ impl CaptureWriter {
         ensures { CaptureWriterStands result [] [] }
     {
         CaptureWriter {
-            line: [QUIET; 64],
+            line: [Pair::QUIET; 64],
             begun: 0,
             text: ArrayVec::new(),
         }

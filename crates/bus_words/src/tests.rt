@@ -16,6 +16,10 @@ fn command_fields(rt: HostRuntime) {
     assert!(rt; !transmit.is_mode(), "subaddress 1");
     assert!(rt; !parity(0x2C21), "2C21 has five ones");
     assert_eq!(rt; Command::make(31, true, 30, 0).words(), 32);
+    assert!(rt;
+        Command::make(31, true, 30, 0).is_broadcast() && !transmit.is_broadcast(),
+        "address 31"
+    );
     assert!(rt; Command::make(0, true, 0, 2).is_mode(), "subaddress 0");
     assert!(rt; Command::make(31, true, 31, 8).is_mode(), "subaddress 31");
 }

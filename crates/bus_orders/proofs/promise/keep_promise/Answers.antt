@@ -1,4 +1,4 @@
-use Rattle.std.proofs.Common.{◌≡◌, ◌∙◌, sym, Option, None, List, ℕ}
+use Rattle.std.proofs.Common.{◌≡◌, ◌∙◌, sym, None}
 use Rattle.bus_words.specs.Fields.{word_count}
 use Rattle.bus_model.specs.Orders.{relayed}
 use Rattle.bus_orders.proofs.promise.keep_promise.Goals as goal

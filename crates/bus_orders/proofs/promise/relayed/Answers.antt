@@ -1,4 +1,4 @@
-use Rattle.std.proofs.Common.{◌∙◌, None}
+use Rattle.std.proofs.Common.{None}
 use Rattle.bus_orders.proofs.Data.{relayed-first}
 use Rattle.bus_orders.proofs.promise.relayed.Goals as goal
 

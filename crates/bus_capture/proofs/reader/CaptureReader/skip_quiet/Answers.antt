@@ -2,7 +2,7 @@ use Rattle.std.proofs.Common.{◌≡◌, ◌≤◌, ◌+◌, length, arith, take
 use Rattle.std.specs.Prelude.{min}
 use Rattle.std.proofs.lemmas.List.{length-take}
 use Rattle.bus_capture.specs.Readings.{text_limit}
-use Rattle.bus_capture.specs.Quiet.{quiet_pairs}
+use Rattle.bus_base.specs.Samples.{quiet_pairs}
 use Rattle.bus_capture.proofs.QuietLaws.{reader-takes, long-quiet}
 use Rattle.bus_capture.proofs.reader.CaptureReader.skip_quiet.Goals as goal
 

@@ -1,5 +1,5 @@
 use Rattle.std.proofs.Common.{◌≡◌, ◌≤◌, ◌+◌, ℕ, List, ◌++◌, length, reverse, take, ap, ◌∙◌, arith}
-use Rattle.bus_capture.specs.Quiet.{quiet_pairs}
+use Rattle.bus_base.specs.Samples.{quiet_pairs}
 use Rattle.bus_capture.specs.Readings.{ticks_in, text_limit}
 use Rattle.bus_monitor.proofs.QuietLaws.{long-more}
 use Rattle.bus_monitor.proofs.WriterLaws.{few-ticks}

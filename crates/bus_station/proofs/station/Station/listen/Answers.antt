@@ -23,10 +23,10 @@ unfolding StationStands
 returns-clause-terminal c = λ plan starts loads outside past st here.
     let long = (keeps LAG plan starts loads outside past).long ∙ here in
     subst (λ (may : Bool). HeardBy LAG plan.terminal loads c.hear.new.self c.hear.result (length past) (sofar LAG plan starts loads outside past).hearing
-    (record { shown = c.args.heard; may = may }))
+    (record { shown = c.args.heard; has_items = may }))
     (c.has_items-may_accept.ensures plan starts (sofar LAG plan starts loads outside past).takes past st.controller)
     (subst (λ (tick : ℕ). HeardBy LAG plan.terminal loads c.hear.new.self c.hear.result tick (sofar LAG plan starts loads outside past).hearing
-    (record { shown = c.args.heard; may = c.has_items-may_accept.result })) (sym here)
+    (record { shown = c.args.heard; has_items = c.has_items-may_accept.result })) (sym here)
     record {
       stands = c.hear.ensures.stands plan.terminal loads (sofar LAG plan starts loads outside past).hearing st.terminal long;
       took = c.hear.ensures.took plan.terminal loads (sofar LAG plan starts loads outside past).hearing st.terminal long;

@@ -25,7 +25,7 @@ overflow_add-self c =
 
 pub returns : goal.returns
 returns c = λ terminal loads past s may st here.
-    let moment : Moment = record { shown = c.args.heard; may = may } in
+    let moment : Moment = record { shown = c.args.heard; has_items = may } in
     let begins = subst (λ (o : Option Channel). Listens LAG terminal o past s) (sym c.begins_in-begins.ensures)
     (answering-listens LAG terminal loads c.args.self.now past s st) in
     let listened = c.listen-both.ensures.listened terminal loads past s moment st.common here refl begins in

@@ -12,7 +12,7 @@ listen-both-requires c =
 
 pub returns : goal.returns
 returns c = λ terminal loads past s may st here.
-    let moment : Moment = record { shown = c.args.heard; may = may } in
+    let moment : Moment = record { shown = c.args.heard; has_items = may } in
     let listened = c.listen-both.ensures.listened terminal loads past s moment st.common here refl (rests-listens LAG terminal past s st.rests_now) in
     let told = c.listen-both.ensures.tells terminal loads past s moment st.common here refl in
     rw c.of.ensures (listening-step LAG terminal loads c.args.self.now (record { common = c.listen-both.new.self }) c.listen-both.result past moment s

@@ -28,7 +28,7 @@ supersede-newer-requires c =
 
 pub returns : goal.returns
 returns c = λ terminal loads past s may st here.
-    let moment : Moment = record { shown = c.args.heard; may = may } in
+    let moment : Moment = record { shown = c.args.heard; has_items = may } in
     let listened = c.listen-both.ensures.listened terminal loads past s moment st.common here refl
     (promised-listens LAG terminal loads c.args.self.now past s st) in
     let told = c.listen-both.ensures.tells terminal loads past s moment st.common here refl in

@@ -17,17 +17,17 @@ step-requires c =
 pub returns-clause-stands : goal.returns-clause-stands
 unfolding TerminalStands
 returns-clause-stands c = λ plan loads hearing st here.
-    let now : Moment = record { shown = c.args.heard; may = c.args.may_accept } in
+    let now : Moment = record { shown = c.args.heard; has_items = c.args.may_accept } in
     rw (standing-tick LAG plan loads hearing.memory now hearing.ticks)
     (c.step.ensures plan loads hearing.ticks (standing LAG plan loads hearing.memory hearing.ticks) st here).state
 
 pub returns-clause-took : goal.returns-clause-took
 unfolding TerminalStands
 returns-clause-took c = λ plan loads hearing st here.
-    let now : Moment = record { shown = c.args.heard; may = c.args.may_accept } in
+    let now : Moment = record { shown = c.args.heard; has_items = c.args.may_accept } in
     let s : Standing = standing LAG plan loads hearing.memory hearing.ticks in
     subst (λ (n : ℕ). TakenIs c.step.result n (channel_of s (order_now LAG plan (now ∷ hearing.ticks) s)) (taken_by LAG plan loads
-    (length hearing.ticks) now.may s (order_now LAG plan (now ∷ hearing.ticks) s)))
+    (length hearing.ticks) now.has_items s (order_now LAG plan (now ∷ hearing.ticks) s)))
     here (c.step.ensures plan loads hearing.ticks s st here).taken
 
 pub returns-clause-accepted : goal.returns-clause-accepted

@@ -1,7 +1,7 @@
 use Rattle.std.proofs.Common.{◌≡◌, length, drop}
 use Rattle.bus_formats.specs.Readings.{data_in}
-use Rattle.bus_orders.proofs.Data.{words_before}
-use Rattle.bus_orders.proofs.commands.data_in.Given as goal
+use Rattle.bus_formats.proofs.Data.{words_before}
+use Rattle.bus_formats.proofs.reading.data_in.Given as goal
 
 -- the words so far come before those of the slots that are left
 abbrev pub invariant-loop-slot : goal.invariant-loop-slot

@@ -1,6 +1,6 @@
 use Rattle.std.proofs.Common.{◌≡◌, ℕ, ◌<◌, get_or, length, false}
 use Rattle.bus_base.specs.Positions.{names}
-use Rattle.bus_base.proofs.positions.flags.Given as goal
+use Rattle.bus_base.proofs.positions.PositionSet.of.Given as goal
 
 -- the flags so far are those of the list
 abbrev pub invariant-loop-place : goal.invariant-loop-place
