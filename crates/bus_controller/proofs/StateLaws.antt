@@ -153,7 +153,7 @@ module _ (k : ℕ) (small : k ≤ 3) (c : Course) (shown : Pair) (past : List Pa
   expecting-by s st (Some slots) is =
       cuts-stand (record s { answer = None }) st.attempt (awaits-more k _ (own s.begun past) s.begun s.first s.end.0 st.awaits) st.known slots (rw is at st.answer)
 
-  expecting-hears : (s : Expecting) → ExpectingStands k c past s → NextStands k c shown past (from_expecting k s (moment_of k shown past))
+  pub expecting-hears : (s : Expecting) → ExpectingStands k c past s → NextStands k c shown past (from_expecting k s (moment_of k shown past))
   expecting-hears s st = expecting-by s st (slots_of s) refl
 
   -- ---- between messages
@@ -164,17 +164,17 @@ module _ (k : ℕ) (small : k ≤ 3) (c : Course) (shown : Pair) (past : List Pa
       let is : run_on k shown past c (runs_next past c) ≡ c = rw none refl in
       rw is (stands, refl)
 
-  holding-hears : (s : Holding) → HoldingStands c past s → NextStands k c shown past (from_holding s (moment_of k shown past))
+  pub holding-hears : (s : Holding) → HoldingStands c past s → NextStands k c shown past (from_holding s (moment_of k shown past))
   holding-hears s st =
       waiting-stands s.agenda s.opening _ st.waits st.none
       (waits-stand c (shown ∷ past) k s.agenda s.opening (wait-more c past shown s.agenda s.opening st.waits st.none))
 
-  settling-hears : (s : Settling) → SettlingStands c past s → NextStands k c shown past (from_settling s (moment_of k shown past))
+  pub settling-hears : (s : Settling) → SettlingStands c past s → NextStands k c shown past (from_settling s (moment_of k shown past))
   settling-hears s st =
       waiting-stands s.agenda (openings.Usual 40) _ st.waits st.none
       (waits-stand c (shown ∷ past) k s.agenda (openings.Usual 40) (wait-more c past shown s.agenda (openings.Usual 40) st.waits st.none))
 
-  yielded-hears : (s : Yielded) → YieldedStands c s → NextStands k c shown past (from_yielded s)
+  pub yielded-hears : (s : Yielded) → YieldedStands c s → NextStands k c shown past (from_yielded s)
   yielded-hears s st =
       let none : runs_next past c ≡ None = rw (st.runs, st.holds) refl in
       let is : run_on k shown past c (runs_next past c) ≡ c = rw none refl in

@@ -19,17 +19,18 @@ use Rattle.bus_formats.specs.Forms.{command_words, data_word}
 use Rattle.bus_formats.specs.Plans.{ItemData, FrameData, StationData}
 use Rattle.bus_formats.specs.declared.plan.Kind.{Kind}
 use Rattle.bus_formats.specs.declared.plan.Kind.TheVariants.{Receive, Transmit, Relay, Mode}
-use Rattle.bus_model.specs.Starts.{Entry, entries_in, entries_from, repeated, has_items, planned_at}
+use Rattle.bus_model.specs.Starts.{Entry, entries_in, entries_from, repeated, has_items}
 use Rattle.bus_model.specs.Attempts.{Begun}
 use Rattle.bus_model.specs.Sending.{drive_sample}
 use Rattle.bus_model.specs.Course.{Take, Course, course, runs_next, run_on, with_takes, take_control, drive_course, at_first}
 use Rattle.bus_controller.specs.Agendas.{AgendaData}
-use Rattle.bus_controller.specs.Steps.{driven_by, left_of, serves, taken_by}
-use Rattle.bus_controller.specs.Stands.{own, SendingStands, Awaits, ExpectingStands, StateStands}
+use Rattle.bus_controller.specs.Steps.{driven_by, left_of, serves, taken, taken_by}
+use Rattle.bus_controller.specs.Stands.{own, SendingStands, Awaits, ExpectingStands, YieldedStands, WaitStands, StateStands}
 use Rattle.bus_controller.specs.ControllerStands.{NoneLater}
 use Rattle.bus_controller.specs.declared.sending.Sending.{Sending}
 use Rattle.bus_controller.specs.declared.expecting.Expecting.{Expecting}
 use Rattle.bus_controller.specs.declared.opening.Opening.TheVariants as openings
+use Rattle.bus_controller.specs.declared.yielded.Yielded.{Yielded}
 use Rattle.bus_controller.specs.declared.states.ControllerState.{ControllerState}
 use Rattle.bus_controller.specs.declared.states.ControllerState.TheVariants as states
 use Rattle.bus_controller.proofs.Moments.{length-on}
@@ -145,7 +146,7 @@ sample-same channel part words i few = elim (cases_lt i 65535) [
 ]
 
 module _ (k : ℕ) (c : Course) (past : List Pair) where
-  sending-drives : (s : Sending) → SendingStands k c past s → driven_by (states.Sending s) ≡ drive_course k past c
+  pub sending-drives : (s : Sending) → SendingStands k c past s → driven_by (states.Sending s) ≡ drive_course k past c
   sending-drives s st =
       let here = length-on s.begun.state.channel past in
       let words = command-few s.begun.entry.item.kind st.attempt.item.kind in
@@ -167,6 +168,17 @@ module _ (k : ℕ) (c : Course) (past : List Pair) where
 
   -- ---- control is taken
 
+  -- a state without control waits for its first tick
+  pub taken-waits : (s : Yielded) (first : Tick) → YieldedStands c s → length past ≤ first.0 →
+      WaitStands (take_control first.0 c) past (taken s first).agenda (taken s first).opening
+  taken-waits s first st later = record {
+    keeps = record { is = rw st.keeps.is refl; ranges = st.keeps.ranges };
+    runs = st.runs;
+    holds = refl;
+    opens = refl;
+    due = λ entry rest here. later;
+  }
+
   pub takes-stand : (s : ControllerState) (first : Tick) → StateStands k c past s → c.holds ≡ false → length past ≤ first.0 →
       StateStands k (take_control first.0 c) past (taken_by s first (length past) (quiet_both past))
   takes-stand (states.Holding s) first st free later = (let bad : false ≡ true = sym free ∙ st.waits.holds in cc)
@@ -174,13 +186,8 @@ module _ (k : ℕ) (c : Course) (past : List Pair) where
   takes-stand (states.Expecting s) first st free later = (let bad : false ≡ true = sym free ∙ st.attempt.holds in cc)
   takes-stand (states.Settling s) first st free later = (let bad : false ≡ true = sym free ∙ st.waits.holds in cc)
   takes-stand (states.Doubting s) first st free later = (let bad : false ≡ true = sym free ∙ st.attempt.holds in cc)
-  takes-stand (states.Yielded s) first st free later = waits-stand (take_control first.0 c) past k (record s.agenda { retry = None; origin = planned_at first.0 s.agenda.left }) (openings.Taking first) record {
-    keeps = record { is = rw st.keeps.is refl; ranges = st.keeps.ranges };
-    runs = st.runs;
-    holds = refl;
-    opens = refl;
-    due = λ entry rest here. later;
-  }
+  takes-stand (states.Yielded s) first st free later =
+      waits-stand (take_control first.0 c) past k (taken s first).agenda (openings.Taking first) (taken-waits s first st later)
 
 -- ---- the items of frames with ranges have ranges
 

@@ -1,5 +1,10 @@
 //! An offer of control was answered badly.
-ghost use Rattle.std.specs.Prelude.{◌≡◌, true};
+ghost use Rattle.std.specs.Prelude.{◌≡◌, true, List};
+ghost use Rattle.bus_base.specs.declared.samples.Pair.{Pair};
+ghost use Rattle.bus_line.specs.declared.cutter.TheConstants.{LAG};
+ghost use Rattle.bus_model.specs.Course.{Course};
+ghost use Rattle.bus_controller.specs.Moments.{moment_of};
+ghost use Rattle.bus_controller.specs.Stands.{DoubtingStands, NextStands};
 ghost use Rattle.bus_controller.specs.Steps.{from_doubting, doubts, going};
 ghost use Rattle.bus_controller.specs.declared.states.ControllerState.TheVariants as states;
 
@@ -30,9 +35,12 @@ impl Doubting {
         moment.quiet >= since && since != DOUBTING
     }
 
-    /// Hears a tick.
+    /// Hears a tick. Whatever course and past it stands for, the next state stands for them one tick later, and it tells of the attempt that ended
+    /// in the tick.
     pub fn hear(self, moment: Moment) -> ControllerNext
-        ensures { result ≡ from_doubting self moment }
+        ensures step { result ≡ from_doubting self moment }
+        ensures stands { (c : Course) (shown : Pair) (past : List Pair) → DoubtingStands LAG c past self → moment ≡ moment_of LAG shown past →
+            NextStands LAG c shown past result }
     {
         doubt(self.agenda, self.begun, self.end, moment)
     }

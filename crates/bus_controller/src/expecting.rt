@@ -7,6 +7,10 @@ ghost use Rattle.bus_line.specs.declared.cutter.TheConstants.{LAG};
 ghost use Rattle.bus_controller.specs.Steps.{expects, from_expecting, silent, runs_on, is_abandoned, cut_heard};
 ghost use Rattle.bus_controller.specs.Steps.{kept, read, first_read, good_first, second_read, ends_first, going};
 ghost use Rattle.bus_controller.specs.Steps as spec;
+ghost use Rattle.bus_base.specs.declared.samples.Pair.{Pair};
+ghost use Rattle.bus_model.specs.Course.{Course};
+ghost use Rattle.bus_controller.specs.Moments.{moment_of};
+ghost use Rattle.bus_controller.specs.Stands.{ExpectingStands, NextStands};
 ghost use Rattle.bus_formats.specs.Forms.{answers_of};
 
 use crate::agenda::Agenda;
@@ -82,8 +86,17 @@ impl Expecting {
         }
     }
 
-    /// Hears a tick.
-    pub fn hear(mut self, moment: Moment) -> ControllerNext
+    /// Hears a tick. Whatever course and past it stands for, the next state stands for them one tick later, and it tells of the attempt that ended
+    /// in the tick.
+    pub fn hear(self, moment: Moment) -> ControllerNext
+        ensures step { result ≡ from_expecting LAG self moment }
+        ensures stands { (c : Course) (shown : Pair) (past : List Pair) → ExpectingStands LAG c past self → moment ≡ moment_of LAG shown past →
+            NextStands LAG c shown past result }
+    {
+        self.step(moment)
+    }
+
+    fn step(mut self, moment: Moment) -> ControllerNext
         ensures { result ≡ from_expecting LAG self moment }
     {
         let channel = self.begun.state.channel;

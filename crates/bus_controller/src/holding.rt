@@ -1,5 +1,10 @@
 //! Control is held, and no message is open.
-ghost use Rattle.std.specs.Prelude.{◌≡◌, true, false};
+ghost use Rattle.std.specs.Prelude.{◌≡◌, true, false, List};
+ghost use Rattle.bus_base.specs.declared.samples.Pair.{Pair};
+ghost use Rattle.bus_line.specs.declared.cutter.TheConstants.{LAG};
+ghost use Rattle.bus_model.specs.Course.{Course};
+ghost use Rattle.bus_controller.specs.Moments.{moment_of};
+ghost use Rattle.bus_controller.specs.Stands.{HoldingStands, NextStands};
 ghost use Rattle.bus_controller.specs.Steps.{may_start, starts_with, begins_with, waits, begins, from_holding, going};
 ghost use Rattle.bus_controller.specs.declared.states.ControllerState.TheVariants as states;
 
@@ -58,9 +63,12 @@ impl Holding {
         true
     }
 
-    /// Hears a tick.
+    /// Hears a tick. Whatever course and past it stands for, the next state stands for them one tick later, and it tells of the attempt that ended
+    /// in the tick.
     pub fn hear(self, moment: Moment) -> ControllerNext
-        ensures { result ≡ from_holding self moment }
+        ensures step { result ≡ from_holding self moment }
+        ensures stands { (c : Course) (shown : Pair) (past : List Pair) → HoldingStands c past self → moment ≡ moment_of LAG shown past →
+            NextStands LAG c shown past result }
     {
         ControllerNext::going(wait(self.agenda, self.opening, moment.next, moment.quiet))
     }

@@ -9,21 +9,21 @@ ghost use Rattle.bus_controller.specs.Moments.{moment_of, cut_on, ReceiverStands
 use bus_base::{Channel, Pair, Sample, Tick};
 use bus_line::{Cut, Cutter};
 
-/// A tick that was heard: what both channels showed in it, and what became known with it.
+/// A tick that was heard: what both channels showed in it, and what became known with it. A receiver alone makes one, so it is that of what was heard.
 #[derive(Clone, Copy)]
 pub struct Moment {
     /// Its number.
-    pub tick: Tick,
+    pub(crate) tick: Tick,
     /// The number of the tick to come.
-    pub next: Tick,
+    pub(crate) next: Tick,
     /// What the channels showed.
-    pub shown: Pair,
+    pub(crate) shown: Pair,
     /// What became known of the bursts on A.
-    pub a: Cut,
+    pub(crate) a: Cut,
     /// What became known of the bursts on B.
-    pub b: Cut,
+    pub(crate) b: Cut,
     /// The ticks in a row up to this one in which both channels were quiet.
-    pub quiet: u64,
+    pub(crate) quiet: u64,
 }
 
 impl Moment {

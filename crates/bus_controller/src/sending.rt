@@ -1,10 +1,14 @@
 //! A command is sent.
-ghost use Rattle.std.specs.Prelude.{◌≡◌, true, false, Option};
+ghost use Rattle.std.specs.Prelude.{◌≡◌, true, false, List, Option};
+ghost use Rattle.bus_base.specs.declared.samples.Pair.{Pair};
 ghost use Rattle.bus_formats.specs.Accepted.{HasItemRanges};
 ghost use Rattle.bus_base.specs.Samples.{is_quiet};
 ghost use Rattle.bus_line.specs.declared.cutter.TheConstants.{LAG};
 ghost use Rattle.bus_model.specs.Sending.{drive_sample};
 ghost use Rattle.bus_base.specs.declared.samples.Part.TheVariants.{Command};
+ghost use Rattle.bus_model.specs.Course.{Course, drive_course};
+ghost use Rattle.bus_controller.specs.Moments.{moment_of};
+ghost use Rattle.bus_controller.specs.Stands.{SendingStands, NextStands};
 ghost use Rattle.bus_controller.specs.Steps.{sends, from_sending, quiet_more, command_ended, going};
 ghost use Rattle.bus_controller.specs.declared.states.ControllerState.TheVariants as states;
 
@@ -65,8 +69,17 @@ impl Sending {
         true
     }
 
-    /// Hears a tick.
+    /// Hears a tick. Whatever course and past it stands for, the next state stands for them one tick later, and it tells of the attempt that ended
+    /// in the tick.
     pub fn hear(self, moment: Moment) -> ControllerNext
+        ensures step { result ≡ from_sending LAG self moment }
+        ensures stands { (c : Course) (shown : Pair) (past : List Pair) → SendingStands LAG c past self → moment ≡ moment_of LAG shown past →
+            NextStands LAG c shown past result }
+    {
+        self.step(moment)
+    }
+
+    fn step(self, moment: Moment) -> ControllerNext
         ensures { result ≡ from_sending LAG self moment }
     {
         let quiet = quiet_after(self.quiet, moment.sample(self.begun.state.channel));
@@ -84,6 +97,13 @@ impl Sending {
 
     /// What is sent in the tick to come.
     pub fn drive(&self) -> Drive
+        ensures sample { result ≡ drive_sample self.now.begun.state.channel Command self.now.burst.items self.now.sent }
+        ensures drives { (c : Course) (past : List Pair) → SendingStands LAG c past self.now → result ≡ drive_course LAG past c }
+    {
+        self.next_sample()
+    }
+
+    fn next_sample(&self) -> Drive
         ensures { result ≡ drive_sample self.now.begun.state.channel Command self.now.burst.items self.now.sent }
     {
         let words = self.burst.as_slice();

@@ -1,5 +1,10 @@
 //! Control is held, and the channels settle after a message that didn't go well.
-ghost use Rattle.std.specs.Prelude.{◌≡◌, true};
+ghost use Rattle.std.specs.Prelude.{◌≡◌, true, List};
+ghost use Rattle.bus_base.specs.declared.samples.Pair.{Pair};
+ghost use Rattle.bus_line.specs.declared.cutter.TheConstants.{LAG};
+ghost use Rattle.bus_model.specs.Course.{Course};
+ghost use Rattle.bus_controller.specs.Moments.{moment_of};
+ghost use Rattle.bus_controller.specs.Stands.{SettlingStands, NextStands};
 ghost use Rattle.bus_controller.specs.Steps.{from_settling, going};
 ghost use Rattle.bus_controller.specs.declared.states.ControllerState.TheVariants as states;
 
@@ -25,9 +30,12 @@ impl Settling {
         moment.quiet < u64::from(SETTLING_QUIET)
     }
 
-    /// Hears a tick.
+    /// Hears a tick. Whatever course and past it stands for, the next state stands for them one tick later, and it tells of the attempt that ended
+    /// in the tick.
     pub fn hear(self, moment: Moment) -> ControllerNext
-        ensures { result ≡ from_settling self moment }
+        ensures step { result ≡ from_settling self moment }
+        ensures stands { (c : Course) (shown : Pair) (past : List Pair) → SettlingStands c past self → moment ≡ moment_of LAG shown past →
+            NextStands LAG c shown past result }
     {
         let opening = Opening::Usual {
             need: SETTLING_QUIET,

@@ -1,6 +1,10 @@
 //! The states of a controller. Hearing a tick consumes a state and gives the next one.
-ghost use Rattle.std.specs.Prelude.{◌≡◌, true, false, length};
+ghost use Rattle.std.specs.Prelude.{◌≡◌, true, false, not, List, length};
+ghost use Rattle.bus_base.specs.declared.samples.Pair.{Pair};
 ghost use Rattle.bus_line.specs.declared.cutter.TheConstants.{LAG};
+ghost use Rattle.bus_model.specs.Course.{Course, drive_course};
+ghost use Rattle.bus_controller.specs.Moments.{moment_of};
+ghost use Rattle.bus_controller.specs.Stands.{StateStands, NextStands};
 ghost use Rattle.bus_controller.specs.Steps.{going, next_of_state, driven_by, serves, left_of, taken_by};
 
 use crate::doubting::Doubting;
@@ -59,8 +63,17 @@ impl ControllerNext {
 }
 
 impl ControllerState {
-    /// Hears a tick.
+    /// Hears a tick. Whatever course and past it stands for, the next state stands for them one tick later, and it tells of the attempt that ended
+    /// in the tick.
     pub fn hear(self, moment: Moment) -> ControllerNext
+        ensures step { result ≡ next_of_state LAG self moment }
+        ensures stands { (c : Course) (shown : Pair) (past : List Pair) → StateStands LAG c past self → moment ≡ moment_of LAG shown past →
+            NextStands LAG c shown past result }
+    {
+        self.step(moment)
+    }
+
+    fn step(self, moment: Moment) -> ControllerNext
         ensures { result ≡ next_of_state LAG self moment }
     {
         match self {
@@ -91,7 +104,8 @@ impl ControllerState {
 
     /// What is sent in the tick to come.
     pub fn drive(&self) -> Drive
-        ensures { result ≡ driven_by self.now }
+        ensures state { result ≡ driven_by self.now }
+        ensures drives { (c : Course) (past : List Pair) → StateStands LAG c past self.now → result ≡ drive_course LAG past c }
     {
         match self {
             ControllerState::Sending(state) => state.drive(),
@@ -101,14 +115,16 @@ impl ControllerState {
 
     /// Whether another station holds control.
     pub fn serves(&self) -> bool
-        ensures { result ≡ serves self.now }
+        ensures state { result ≡ serves self.now }
+        ensures holds { (c : Course) (past : List Pair) → StateStands LAG c past self.now → result ≡ not c.holds }
     {
         matches!(self, ControllerState::Yielded(_))
     }
 
     /// How many items are left.
     pub fn items_left(&self) -> u32
-        ensures { result ≡ length (left_of self.now) }
+        ensures state { result ≡ length (left_of self.now) }
+        ensures left { (c : Course) (past : List Pair) → StateStands LAG c past self.now → result ≡ length c.left }
     {
         match self {
             ControllerState::Holding(state) => state.agenda.items_left(),

@@ -13,3 +13,4 @@ pub mod Starting
 pub mod LoadsMade
 pub mod Loading
 pub mod Loaded
+pub mod Noticing

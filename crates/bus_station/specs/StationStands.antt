@@ -9,6 +9,7 @@ use Rattle.bus_terminal.specs.Stands.{AreMade}
 use Rattle.bus_terminal.specs.TerminalStands.{TerminalStands}
 use Rattle.bus_controller.specs.ControllerStands.{ControllerStands}
 use Rattle.bus_station.specs.Roles.{tick_of}
+use Rattle.bus_station.specs.Noticed.{noticed, is_event, KeepsNewest}
 use Rattle.bus_station.specs.Told.{attempts_told, delivery_told, ended_newest, delivered_newest}
 use Rattle.bus_station.specs.declared.event.StationEvent.{StationEvent}
 use Rattle.bus_station.specs.declared.station.Station.{Station}
@@ -41,3 +42,12 @@ pub record AfterTick (k : ℕ) (station : StationData) (starts : Bool) (loads : 
   pub stands : StationStands k station starts loads outside value (shown ∷ past)
   pub ended : attempts_told event ≡ ended_newest k station starts loads outside (shown ∷ past)
   pub took : delivery_told event ≡ delivered_newest k station starts loads outside (shown ∷ past)
+
+-- a station after one tick more, and its answer whether it noticed something: that it keeps, and nothing of an earlier tick
+pub record AfterNotice (k : ℕ) (station : StationData) (starts : Bool) (loads : List TimedLoad) (outside : List OutsideTake) (value : Station)
+    (answer : Bool) (shown : Pair) (past : List Pair) : Type 0 where
+  pub stands : StationStands k station starts loads outside value (shown ∷ past)
+  pub ended : attempts_told (noticed answer value.event) ≡ ended_newest k station starts loads outside (shown ∷ past)
+  pub took : delivery_told (noticed answer value.event) ≡ delivered_newest k station starts loads outside (shown ∷ past)
+  pub keeps : KeepsNewest k station starts loads outside value (shown ∷ past)
+  pub some : answer ≡ is_event value.event

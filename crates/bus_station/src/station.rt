@@ -20,8 +20,8 @@ ghost use Rattle.bus_station.specs.Hears.{HeardBy};
 ghost use Rattle.bus_station.specs.Roles.{role_after};
 ghost use Rattle.bus_station.specs.Roles as roles;
 ghost use Rattle.bus_station.specs.Told.{attempts_told, delivery_told, ended_newest, delivered_newest};
-ghost use Rattle.bus_station.specs.StationStands.{StationStands, AfterTick};
-ghost use Rattle.bus_station.specs.Noticed.{noticed};
+ghost use Rattle.bus_station.specs.StationStands.{StationStands, AfterTick, AfterNotice};
+ghost use Rattle.bus_station.specs.Noticed.{noticed, is_event, TellsNewest, KeepsNewest, HasTold};
 ghost use Rattle.bus_station.specs.declared.event.StationEvent.TheVariants.{Nothing};
 
 use crate::event::StationEvent;
@@ -50,7 +50,8 @@ impl Station {
     /// A station as its plan describes it. It holds control from the start, or it serves.
     pub fn new(plan: StationPlan, starts: bool) -> Station
         requires { StationFits plan }
-        ensures { StationStands LAG plan starts [] [] result [] }
+        ensures stands { StationStands LAG plan starts [] [] result [] }
+        ensures told { HasTold result }
     {
         let StationPlan {
             terminal,
@@ -71,7 +72,7 @@ impl Station {
 
     /// Hears what both channels showed in the tick `now`, which follows the last tick heard. A station that holds control hears it as a
     /// controller, and one that serves as a terminal; one that yields control in this tick does both. It tells of the attempt that ended in
-    /// this tick, or of the block that its terminal took whole in it. It takes no memory.
+    /// this tick, or of the block that its terminal took whole in it. Nothing is left to tell. It takes no memory.
     #[inline(always)]
     pub fn hear(&mut self, now: Tick, heard: Pair) -> StationEvent
         requires { (plan : StationData) × (starts : Bool) × (loads : List TimedLoad) × (outside : List OutsideTake) × (past : List Pair)
@@ -82,6 +83,7 @@ impl Station {
             StationStands LAG plan starts loads outside self.old past → attempts_told result ≡ ended_newest LAG plan starts loads outside (heard ∷ past) }
         ensures took { (plan : StationData) (starts : Bool) (loads : List TimedLoad) (outside : List OutsideTake) (past : List Pair) →
             StationStands LAG plan starts loads outside self.old past → delivery_told result ≡ delivered_newest LAG plan starts loads outside (heard ∷ past) }
+        ensures told { HasTold self.new }
     {
         if self.notices(now, heard) {
             self.tell()
@@ -90,15 +92,47 @@ impl Station {
         }
     }
 
-    /// Hears the tick as `hear` does, and answers whether there is something to tell of it: then `tell` tells it. In most ticks there is nothing,
-    /// and no event is written.
+    /// Hears the tick as `hear` does, and answers whether there is something to tell of it: then `tell` tells it. What wasn't told of an earlier
+    /// tick is told no more. In most ticks there is nothing, and no event is written.
     #[inline(always)]
     pub fn notices(&mut self, now: Tick, heard: Pair) -> bool
         requires { (plan : StationData) × (starts : Bool) × (loads : List TimedLoad) × (outside : List OutsideTake) × (past : List Pair)
             × StationStands LAG plan starts loads outside self.old past × (length past ≡ now.0) × (now.0 < 2 ^ 60) }
         ensures { (plan : StationData) (starts : Bool) (loads : List TimedLoad) (outside : List OutsideTake) (past : List Pair) →
             StationStands LAG plan starts loads outside self.old past →
+            AfterNotice LAG plan starts loads outside self.new result heard past }
+    {
+        self.forget();
+        self.step(now, heard)
+    }
+
+    // What was noticed of an earlier tick is told no more.
+    #[inline(always)]
+    fn forget(&mut self)
+        ensures { self.new ≡ record self.old { event = Nothing } }
+    {
+        if !matches!(self.event, StationEvent::Nothing) {
+            self.clear();
+        }
+    }
+
+    // It is a call of its own, since an event is large.
+    #[inline(never)]
+    fn clear(&mut self)
+        ensures { self.new ≡ record self.old { event = Nothing } }
+    {
+        self.event = StationEvent::Nothing;
+    }
+
+    #[inline(always)]
+    fn step(&mut self, now: Tick, heard: Pair) -> bool
+        requires { (plan : StationData) × (starts : Bool) × (loads : List TimedLoad) × (outside : List OutsideTake) × (past : List Pair)
+            × StationStands LAG plan starts loads outside self.old past × (length past ≡ now.0) × (now.0 < 2 ^ 60) }
+        ensures tick { (plan : StationData) (starts : Bool) (loads : List TimedLoad) (outside : List OutsideTake) (past : List Pair) →
+            StationStands LAG plan starts loads outside self.old past →
             AfterTick LAG plan starts loads outside self.new (noticed result self.new.event) heard past }
+        ensures some { result ≡ true → is_event self.new.event ≡ true }
+        ensures none { result ≡ false → self.new.event ≡ self.old.event }
     {
         if self.controller.is_yielded() {
             self.serve(now, heard)
@@ -107,10 +141,13 @@ impl Station {
         }
     }
 
-    /// What it noticed last. It is told once: from then on it is nothing, until something else is noticed.
+    /// What it noticed in its newest tick, as `hear` tells it. It is told once: from then on it is nothing, until something else is noticed.
     pub fn tell(&mut self) -> StationEvent
         ensures event { result ≡ self.old.event }
-        ensures told { self.new.event ≡ Nothing }
+        ensures newest { (plan : StationData) (starts : Bool) (loads : List TimedLoad) (outside : List OutsideTake) (past : List Pair) →
+            KeepsNewest LAG plan starts loads outside self.old past → TellsNewest LAG plan starts loads outside result past }
+        ensures once { HasTold self.old → result ≡ Nothing }
+        ensures told { HasTold self.new }
         ensures stands { (plan : StationData) (starts : Bool) (loads : List TimedLoad) (outside : List OutsideTake) (past : List Pair) →
             StationStands LAG plan starts loads outside self.old past → StationStands LAG plan starts loads outside self.new past }
     {
@@ -123,9 +160,11 @@ impl Station {
         requires { (plan : StationData) × (starts : Bool) × (loads : List TimedLoad) × (outside : List OutsideTake) × (past : List Pair)
             × StationStands LAG plan starts loads outside self.old past × (holds_control LAG plan starts loads outside past ≡ false)
             × (length past ≡ now.0) × (now.0 < 2 ^ 60) }
-        ensures { (plan : StationData) (starts : Bool) (loads : List TimedLoad) (outside : List OutsideTake) (past : List Pair) →
+        ensures tick { (plan : StationData) (starts : Bool) (loads : List TimedLoad) (outside : List OutsideTake) (past : List Pair) →
             StationStands LAG plan starts loads outside self.old past → holds_control LAG plan starts loads outside past ≡ false → length past ≡ now.0 →
             AfterTick LAG plan starts loads outside self.new (noticed result self.new.event) heard past }
+        ensures some { result ≡ true → is_event self.new.event ≡ true }
+        ensures none { result ≡ false → self.new.event ≡ self.old.event }
     {
         match self.listen(now, heard) {
             TerminalEvent::Nothing => false,
@@ -146,6 +185,7 @@ impl Station {
         requires { (plan : StationData) × (starts : Bool) × (loads : List TimedLoad) × (outside : List OutsideTake) × (past : List Pair)
             × StationStands LAG plan starts loads outside self.old past × (holds_control LAG plan starts loads outside past ≡ false)
             × (length past ≡ now.0) × (now.0 < 2 ^ 60) }
+        ensures event { self.new.event ≡ self.old.event }
         ensures address { self.new.address ≡ self.old.address }
         ensures taking { self.new.taking ≡ self.old.taking }
         ensures controller { (station : StationData) (starts : Bool) (takes : List Take) (past : List Pair) →
@@ -166,6 +206,7 @@ impl Station {
         requires { (station : StationData) × (starts : Bool) × (takes : List Take) × (past : List Pair)
             × ControllerStands LAG station starts takes self.old.controller past × ((course LAG station starts takes past).holds ≡ false)
             × ((course LAG station starts takes past).left ≢ []) × (length past ≤ first.0) }
+        ensures event { self.new.event ≡ self.old.event }
         ensures address { self.new.address ≡ self.old.address }
         ensures taking { self.new.taking ≡ Some first }
         ensures controller { (station : StationData) (starts : Bool) (takes : List Take) (past : List Pair) →
@@ -184,9 +225,11 @@ impl Station {
     fn hold(&mut self, now: Tick, heard: Pair) -> bool
         requires { (plan : StationData) × (starts : Bool) × (loads : List TimedLoad) × (outside : List OutsideTake) × (past : List Pair)
             × StationStands LAG plan starts loads outside self.old past × (length past ≡ now.0) × (now.0 < 2 ^ 60) }
-        ensures { (plan : StationData) (starts : Bool) (loads : List TimedLoad) (outside : List OutsideTake) (past : List Pair) →
+        ensures tick { (plan : StationData) (starts : Bool) (loads : List TimedLoad) (outside : List OutsideTake) (past : List Pair) →
             StationStands LAG plan starts loads outside self.old past → holds_control LAG plan starts loads outside past ≡ true → length past ≡ now.0 →
             AfterTick LAG plan starts loads outside self.new (noticed result self.new.event) heard past }
+        ensures some { result ≡ true → is_event self.new.event ≡ true }
+        ensures none { result ≡ false → self.new.event ≡ self.old.event }
     {
         match self.controller.hear(now, heard) {
             ControllerEvent::Nothing => {
@@ -210,6 +253,7 @@ impl Station {
     fn rest(&mut self, now: Tick)
         requires { (plan : TerminalData) × (loads : List TimedLoad) × (hearing : Hearing) × TerminalStands LAG plan loads self.old.terminal hearing
             × (length hearing.ticks ≡ now.0) × (now.0 < 2 ^ 60) }
+        ensures event { self.new.event ≡ self.old.event }
         ensures address { self.new.address ≡ self.old.address }
         ensures taking { self.new.taking ≡ self.old.taking }
         ensures controller { self.new.controller ≡ self.old.controller }
@@ -301,10 +345,11 @@ impl Station {
         requires fits { length words.now ≤ 32 }
         requires heard { (plan : StationData) × (starts : Bool) × (loads : List TimedLoad) × (outside : List OutsideTake) × (shown : Pair) × (past : List Pair)
             × StationStands LAG plan starts loads outside self.old (shown ∷ past) }
-        ensures { (plan : StationData) (starts : Bool) (loads : List TimedLoad) (outside : List OutsideTake) (shown : Pair) (past : List Pair) →
+        ensures stands { (plan : StationData) (starts : Bool) (loads : List TimedLoad) (outside : List OutsideTake) (shown : Pair) (past : List Pair) →
             StationStands LAG plan starts loads outside self.old (shown ∷ past) →
             StationStands LAG plan starts (loads ++ record { tick = length past; address = plan.terminal.address; sub = sub; words = words.now } ∷ []) outside
             self.new (shown ∷ past) }
+        ensures untold { self.new.event ≡ self.old.event }
     {
         self.terminal.load(sub, words);
     }
@@ -316,12 +361,13 @@ impl Station {
             × StationStands LAG plan starts loads outside self.old (shown ∷ past)
             × (holds_control LAG plan starts loads outside past ≡ false) × (holds_control LAG plan starts loads outside (shown ∷ past) ≡ false)
             × ((course_after LAG plan starts loads outside (shown ∷ past)).left ≢ []) × (length past < first.0) }
-        ensures { (plan : StationData) (starts : Bool) (loads : List TimedLoad) (outside : List OutsideTake) (shown : Pair) (past : List Pair) →
+        ensures stands { (plan : StationData) (starts : Bool) (loads : List TimedLoad) (outside : List OutsideTake) (shown : Pair) (past : List Pair) →
             StationStands LAG plan starts loads outside self.old (shown ∷ past) →
             holds_control LAG plan starts loads outside past ≡ false → holds_control LAG plan starts loads outside (shown ∷ past) ≡ false →
             length past < first.0 →
             StationStands LAG plan starts loads (outside ++ record { tick = length past; address = plan.terminal.address; first = first.0 } ∷ []) self.new
             (shown ∷ past) }
+        ensures untold { self.new.event ≡ self.old.event }
     {
         self.take_over(first);
     }

@@ -7,7 +7,7 @@ ghost use Rattle.bus_model.specs.Hearing.{Moment};
 ghost use Rattle.bus_model.specs.Sending.{drive_sample};
 ghost use Rattle.bus_model.specs.Sending as sending;
 ghost use Rattle.bus_model.specs.Standing.{Standing};
-ghost use Rattle.bus_model.specs.Terminal.{accepted_on};
+ghost use Rattle.bus_model.specs.Terminal.{accepted_on, drive_of};
 ghost use Rattle.bus_terminal.specs.Stands.{AnsweringStands, NextStands};
 ghost use Rattle.bus_terminal.specs.Hearing.{AnsweringHeard, AfterStep};
 ghost use Rattle.bus_terminal.specs.declared.answering.Answering.{Answering as AnsweringData};
@@ -34,6 +34,26 @@ pub struct Answering {
 }
 
 impl Answering {
+    /// Hears what both channels show in the tick `now`, the number of the ticks heard before. `may_accept` says that the terminal's station has
+    /// items left. Whatever history it stands for, the next state stands for it with this tick, and it tells the block that was taken whole in the
+    /// tick, or that control was accepted.
+    pub fn hear(mut self, now: Tick, heard: Pair, may_accept: bool) -> TerminalNext
+        requires { (terminal : TerminalData) × (loads : List TimedLoad) × (past : List Moment) × (s : Standing)
+            × AnsweringStands LAG terminal loads self past s × (length past ≡ now.0) × (now.0 < 2 ^ 60) }
+        ensures { (terminal : TerminalData) (loads : List TimedLoad) (past : List Moment) (s : Standing) →
+            AnsweringStands LAG terminal loads self past s → length past ≡ now.0 →
+            NextStands LAG terminal loads result past (record { shown = heard; has_items = may_accept }) s
+            (accepted_on LAG terminal loads (record { shown = heard; has_items = may_accept }) past s) }
+    {
+        match self.listen(now, heard) {
+            Step::Stays => TerminalNext {
+                state: TerminalState::Answering(self),
+                event: TerminalEvent::Nothing,
+            },
+            Step::Changes(both) => self.next(now, both, may_accept),
+        }
+    }
+
     /// Hears what both channels show in the tick `now`, the number of the ticks heard before, and stays unless something is handled or it is left.
     #[inline(always)]
     pub(crate) fn listen(&mut self, now: Tick, heard: Pair) -> Step
@@ -83,8 +103,10 @@ impl Answering {
     }
 
     /// What it sends in the next tick.
-    pub(crate) fn drive(&self) -> Drive
-        ensures { result ≡ drive_sample self.now.sends.channel self.now.sends.part self.now.sends.answer.words.items self.now.sent }
+    pub fn drive(&self) -> Drive
+        ensures sample { result ≡ drive_sample self.now.sends.channel self.now.sends.part self.now.sends.answer.words.items self.now.sent }
+        ensures drives { (terminal : TerminalData) (loads : List TimedLoad) (past : List Moment) (s : Standing) →
+            AnsweringStands LAG terminal loads self.now past s → result ≡ drive_of LAG terminal past s }
     {
         drive_sample(
             self.sends.channel,

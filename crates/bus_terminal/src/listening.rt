@@ -1,19 +1,23 @@
 //! A terminal that owes nothing.
-ghost use Rattle.std.specs.Prelude.{◌≡◌, ◌<◌, ◌^◌, ℕ, Bool, List, length};
+ghost use Rattle.std.specs.Prelude.{◌≡◌, ◌<◌, ◌^◌, ℕ, Bool, List, [], length};
 ghost use Rattle.bus_line.specs.declared.cutter.TheConstants.{LAG};
 ghost use Rattle.bus_formats.specs.Plans.{TerminalData};
-ghost use Rattle.bus_model.specs.Memory.{TimedLoad};
+ghost use Rattle.bus_model.specs.Memory.{TimedLoad, first_memory, clear_registers, no_blocks, loaded};
 ghost use Rattle.bus_model.specs.Hearing.{Moment};
 ghost use Rattle.bus_model.specs.Standing.{Standing};
-ghost use Rattle.bus_model.specs.Terminal.{accepted_on};
-ghost use Rattle.bus_terminal.specs.Stands.{ListeningStands, NextStands};
+ghost use Rattle.bus_model.specs.Terminal.{accepted_on, standing};
+ghost use Rattle.bus_terminal.specs.Quiet.{quiet_moments};
+ghost use Rattle.bus_terminal.specs.Stands.{TerminalFits, ListeningStands, NextStands};
+ghost use Rattle.bus_terminal.specs.TerminalStands.{HasLoads};
 ghost use Rattle.bus_terminal.specs.Hearing.{ListeningHeard, AfterStep};
 ghost use Rattle.bus_terminal.specs.declared.listening.Listening.{Listening as ListeningData};
 
-use crate::common::{BothHeard, Common};
+use crate::common::{BothHeard, Common, Ears};
 use crate::handling::{found, is_found};
 use crate::state::{Step, TerminalEvent, TerminalNext, TerminalState, act};
 use bus_base::{Pair, Tick};
+use bus_formats::{Load, TerminalPlan};
+use bus_orders::Memory;
 
 /// It owes nothing: it waits for a command. What its last order left was carried out, given up, or taken back by a newer command on the other
 /// channel (MIL-STD-1553B 4.4.3.1, 4.4.3.2). A command that is answered or promises something leaves it, in the tick in which its burst's end is
@@ -24,6 +28,42 @@ pub struct Listening {
 }
 
 impl Listening {
+    /// Registers that are clear, and blocks that are empty but for the plan's loads. It stands for any number of quiet ticks.
+    pub fn new(plan: TerminalPlan) -> Listening
+        requires fits { TerminalFits LAG plan }
+        requires loads { HasLoads plan.loads }
+        ensures { (n : ℕ) → ListeningStands LAG plan [] result (quiet_moments n) (standing LAG plan [] (first_memory plan) (quiet_moments n)) }
+    {
+        let memory = loaded_memory(&plan.loads);
+        Listening {
+            common: Common {
+                plan,
+                memory,
+                ears: Ears::new(),
+            },
+        }
+    }
+
+    /// Hears what both channels show in the tick `now`, the number of the ticks heard before. `may_accept` says that the terminal's station has
+    /// items left. Whatever history it stands for, the next state stands for it with this tick, and it tells the block that was taken whole in the
+    /// tick, or that control was accepted.
+    pub fn hear(mut self, now: Tick, heard: Pair, may_accept: bool) -> TerminalNext
+        requires { (terminal : TerminalData) × (loads : List TimedLoad) × (past : List Moment) × (s : Standing)
+            × ListeningStands LAG terminal loads self past s × (length past ≡ now.0) × (now.0 < 2 ^ 60) }
+        ensures { (terminal : TerminalData) (loads : List TimedLoad) (past : List Moment) (s : Standing) →
+            ListeningStands LAG terminal loads self past s → length past ≡ now.0 →
+            NextStands LAG terminal loads result past (record { shown = heard; has_items = may_accept }) s
+            (accepted_on LAG terminal loads (record { shown = heard; has_items = may_accept }) past s) }
+    {
+        match self.listen(now, heard) {
+            Step::Stays => TerminalNext {
+                state: TerminalState::Listening(self),
+                event: TerminalEvent::Nothing,
+            },
+            Step::Changes(both) => self.next(now, both, may_accept),
+        }
+    }
+
     /// Hears what both channels show in the tick `now`, the number of the ticks heard before, and stays unless something is handled or it is left.
     #[inline(always)]
     pub(crate) fn listen(&mut self, now: Tick, heard: Pair) -> Step
@@ -55,5 +95,24 @@ impl Listening {
                 event: TerminalEvent::Nothing,
             },
         }
+    }
+}
+
+// Clear registers, and empty blocks but for these loads.
+fn loaded_memory(loads: &Vec<Load>) -> Memory
+    requires { HasLoads loads.now.items }
+    ensures { result ≡ record { registers = clear_registers; received = no_blocks; transmit = loaded no_blocks loads.now.items } }
+{
+    let mut memory = Memory::new();
+    put_up(&mut memory, loads.as_slice());
+    memory
+}
+
+fn put_up(memory: &mut Memory, loads: &[Load])
+    requires { HasLoads loads.now }
+    ensures { memory.new ≡ record memory.old { transmit = loaded memory.old.transmit loads.now } }
+{
+    for load in loads {
+        memory.load(load.sub, load.words.words());
     }
 }

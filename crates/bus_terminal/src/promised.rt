@@ -32,6 +32,26 @@ pub struct Promised {
 }
 
 impl Promised {
+    /// Hears what both channels show in the tick `now`, the number of the ticks heard before. `may_accept` says that the terminal's station has
+    /// items left. Whatever history it stands for, the next state stands for it with this tick, and it tells the block that was taken whole in the
+    /// tick, or that control was accepted.
+    pub fn hear(mut self, now: Tick, heard: Pair, may_accept: bool) -> TerminalNext
+        requires { (terminal : TerminalData) × (loads : List TimedLoad) × (past : List Moment) × (s : Standing)
+            × PromisedStands LAG terminal loads self past s × (length past ≡ now.0) × (now.0 < 2 ^ 60) }
+        ensures { (terminal : TerminalData) (loads : List TimedLoad) (past : List Moment) (s : Standing) →
+            PromisedStands LAG terminal loads self past s → length past ≡ now.0 →
+            NextStands LAG terminal loads result past (record { shown = heard; has_items = may_accept }) s
+            (accepted_on LAG terminal loads (record { shown = heard; has_items = may_accept }) past s) }
+    {
+        match self.listen(now, heard) {
+            Step::Stays => TerminalNext {
+                state: TerminalState::Promised(self),
+                event: TerminalEvent::Nothing,
+            },
+            Step::Changes(both) => self.next(now, both, may_accept),
+        }
+    }
+
     /// Hears what both channels show in the tick `now`, the number of the ticks heard before, and stays unless something is handled or it is left.
     #[inline(always)]
     pub(crate) fn listen(&mut self, now: Tick, heard: Pair) -> Step

@@ -2,7 +2,7 @@
 ghost use Rattle.std.specs.Prelude.{◌≡◌, ◌<◌, ◌^◌, ◌≤◌, ◌∷◌, ◌++◌, [], ℕ, List, length, false};
 ghost use Rattle.bus_line.specs.declared.cutter.TheConstants.{LAG};
 ghost use Rattle.bus_formats.specs.Plans.{TerminalData};
-ghost use Rattle.bus_model.specs.Memory.{TimedLoad, first_memory, clear_registers, no_blocks, loaded};
+ghost use Rattle.bus_model.specs.Memory.{TimedLoad, first_memory};
 ghost use Rattle.bus_model.specs.Hearing.{Hearing, Moment};
 ghost use Rattle.bus_model.specs.Standing.{Standing};
 ghost use Rattle.bus_model.specs.Terminal.{took_now, accepted_now, accepted_on, drives, memory_after, standing, order_now};
@@ -19,8 +19,8 @@ use crate::common::{BothHeard, Common, Ears};
 use crate::state::{Step, TerminalEvent, TerminalState};
 use bus_base::{Drive, Pair, Tick};
 use bus_buffers::Buffers;
-use bus_formats::{Load, Registers, TerminalPlan};
-use bus_orders::{Memory, status_of};
+use bus_formats::{Registers, TerminalPlan};
+use bus_orders::status_of;
 use bus_words::Status;
 
 /// A remote terminal.
@@ -37,15 +37,8 @@ impl Terminal {
         requires loads { HasLoads plan.loads }
         ensures { (n : ℕ) → TerminalStands LAG plan [] result (record { memory = first_memory plan; ticks = quiet_moments n }) }
     {
-        let memory = loaded_memory(&plan.loads);
         Terminal {
-            state: TerminalState::Listening(Listening {
-                common: Common {
-                    plan,
-                    memory,
-                    ears: Ears::new(),
-                },
-            }),
+            state: TerminalState::Listening(Listening::new(plan)),
         }
     }
 
@@ -194,23 +187,4 @@ fn rested(state: TerminalState) -> TerminalState
             ears: Ears::new(),
         },
     })
-}
-
-// Clear registers, and empty blocks but for these loads.
-fn loaded_memory(loads: &Vec<Load>) -> Memory
-    requires { HasLoads loads.now.items }
-    ensures { result ≡ record { registers = clear_registers; received = no_blocks; transmit = loaded no_blocks loads.now.items } }
-{
-    let mut memory = Memory::new();
-    put_up(&mut memory, loads.as_slice());
-    memory
-}
-
-fn put_up(memory: &mut Memory, loads: &[Load])
-    requires { HasLoads loads.now }
-    ensures { memory.new ≡ record memory.old { transmit = loaded memory.old.transmit loads.now } }
-{
-    for load in loads {
-        memory.load(load.sub, load.words.words());
-    }
 }

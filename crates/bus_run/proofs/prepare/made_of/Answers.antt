@@ -10,7 +10,7 @@ loop-station-preserved c = record {
   each = λ plan i s value start here at.
       made-more plan c.loop-station.made.items c.push.new.self.items c.args.stations.now c.new.result i s value
       (λ j d v found held. c.loop-station.invariant.each plan j d v start found held)
-      (λ d found. made-one plan d c.station-item.result c.in_ok-copied.copied c.args.start c.has_address.result c.new.result c.new.ensures
+      (λ d found. made-one plan d c.station-item.result c.in_ok-copied.copied c.args.start c.has_address.result c.new.result c.new.ensures.stands
       c.in_ok-copied.ensures
       (same_Some c.station-item.result d (sym (slice_get_read c.args.stations.now
       (length c.args.stations.now) c.loop-station.station-index c.station-item.result refl

@@ -7,4 +7,4 @@ use Rattle.bus_controller.proofs.controller.Controller.is_yielded.Goals as goal
 
 pub returns : goal.returns
 unfolding ControllerStands
-returns c = λ station starts takes past st. c.serves.ensures ∙ state-serves LAG (course LAG station starts takes past) past c.args.self.now.state st.state
+returns c = λ station starts takes past st. c.serves.ensures.state ∙ state-serves LAG (course LAG station starts takes past) past c.args.self.now.state st.state

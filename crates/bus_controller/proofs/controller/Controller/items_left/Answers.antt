@@ -8,4 +8,4 @@ use Rattle.bus_controller.proofs.controller.Controller.items_left.Goals as goal
 pub returns : goal.returns
 unfolding ControllerStands
 returns c = λ station starts takes past st.
-    c.items_left.ensures ∙ ap length (state-left LAG (course LAG station starts takes past) past c.args.self.now.state st.state)
+    c.items_left.ensures.state ∙ ap length (state-left LAG (course LAG station starts takes past) past c.args.self.now.state st.state)

@@ -28,9 +28,9 @@ close-requires c =
     let (plan, starts, loads, outside, past, st, here, small) = c.requires in
     (plan.terminal, loads, (sofar LAG plan starts loads outside past).hearing, st.terminal, (keeps LAG plan starts loads outside past).long ∙ here, small)
 
-pub returns-in-Nothing : goal.returns-in-Nothing
+pub returns-in-Nothing-clause-tick : goal.returns-in-Nothing-clause-tick
 unfolding StationStands
-returns-in-Nothing c = λ plan starts loads outside past st on here.
+returns-in-Nothing-clause-tick c = λ plan starts loads outside past st on here.
     rested LAG plan starts loads outside c.args.self.now _ c.args.heard past st on
     (c.in-Nothing.ensures.event plan starts (sofar LAG plan starts loads outside past).takes past st.controller)
     (subst (λ (value : Controller). ControllerStands LAG plan starts (sofar LAG plan starts loads outside past).takes value (c.args.heard ∷ past))
@@ -42,9 +42,9 @@ returns-in-Nothing c = λ plan starts loads outside past st on here.
     (c.still_taking-self.ensures ∙ ap (λ (t : Option Tick). still_taking t c.args.now.0) c.rest.ensures.taking ∙ ap (still_taking c.args.self.now.taking)
     (sym here))
 
-pub returns-in-Ended : goal.returns-in-Ended
+pub returns-in-Ended-clause-tick : goal.returns-in-Ended-clause-tick
 unfolding StationStands
-returns-in-Ended c = λ plan starts loads outside past st on here.
+returns-in-Ended-clause-tick c = λ plan starts loads outside past st on here.
     closed LAG plan starts loads outside c.args.self.now _ c.args.heard past c.in-Ended.attempt st on
     (c.in-Ended.ensures.event plan starts (sofar LAG plan starts loads outside past).takes past st.controller)
     (subst (λ (value : Controller). ControllerStands LAG plan starts (sofar LAG plan starts loads outside past).takes value (c.args.heard ∷ past))

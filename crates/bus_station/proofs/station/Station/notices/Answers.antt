@@ -1,25 +1,16 @@
-use Rattle.std.proofs.Common.{◌∙◌}
+use Rattle.std.proofs.Common.{ap}
 use Rattle.bus_line.specs.declared.cutter.TheConstants.{LAG}
-use Rattle.bus_station.specs.StationStands.{StationStands}
-use Rattle.bus_station.proofs.Shown.{serves, controls, same-length}
+use Rattle.bus_station.specs.declared.station.Station.{Station}
+use Rattle.bus_station.proofs.Noticing.{forgotten, notices-newest}
 use Rattle.bus_station.proofs.station.Station.notices.Goals as goal
 
-pub serve-requires : goal.serve-requires
-unfolding StationStands
-serve-requires c =
+pub step-requires : goal.step-requires
+step-requires c =
     let (plan, starts, loads, outside, past, st, here, small) = c.requires in
-    (plan, starts, loads, outside, past, st, serves _ _ (c.is_yielded.ensures plan starts _ past st.controller) c.if-is_yielded.true, here, small)
+    (plan, starts, loads, outside, past, forgotten LAG plan starts loads outside c.args.self.now _ past c.forget.ensures st, here, small)
 
-pub returns-then-is_yielded : goal.returns-then-is_yielded
-unfolding StationStands
-returns-then-is_yielded c = λ plan starts loads outside past st.
-    let (known, on, made, taken, heard, st_known, here, small) = c.requires in
-    c.serve.ensures plan starts loads outside past st (serves _ _ (c.is_yielded.ensures plan starts _ past st.controller) c.if-is_yielded.true)
-    (same-length LAG _ _ _ _ _ _ _ past heard st.controller st_known.controller ∙ here)
-
-pub returns-else-is_yielded : goal.returns-else-is_yielded
-unfolding StationStands
-returns-else-is_yielded c = λ plan starts loads outside past st.
-    let (known, on, made, taken, heard, st_known, here, small) = c.requires in
-    c.hold.ensures plan starts loads outside past st (controls _ _ (c.is_yielded.ensures plan starts _ past st.controller) c.if-is_yielded.false)
-    (same-length LAG _ _ _ _ _ _ _ past heard st.controller st_known.controller ∙ here)
+pub returns : goal.returns
+returns c = λ plan starts loads outside past st.
+    notices-newest LAG plan starts loads outside c.forget.new.self _ c.step.result c.args.heard past (ap (λ (s : Station). s.event) c.forget.ensures)
+    (c.step.ensures.tick plan starts loads outside past (forgotten LAG plan starts loads outside c.args.self.now _ past c.forget.ensures st))
+    c.step.ensures.some c.step.ensures.none

@@ -38,27 +38,27 @@ take_over-requires c =
       omega (arith, here, c.first_command.ensures),
     )
 
-pub returns-in-Nothing : goal.returns-in-Nothing
+pub returns-in-Nothing-clause-tick : goal.returns-in-Nothing-clause-tick
 unfolding StationStands
-returns-in-Nothing c = λ plan starts loads outside past st off here.
+returns-in-Nothing-clause-tick c = λ plan starts loads outside past st off here.
     let heard = c.listen.ensures.terminal plan starts loads outside past st here in
     served LAG plan starts loads outside c.args.self.now _ c.listen.result _ c.args.heard past st off
     (none-accepted c.listen.result _ (λ e. (let no : heards.Nothing ≡ heards.Accepted = sym c.in-Nothing.is ∙ e in cc)) heard.accepted)
     (c.listen.ensures.controller plan starts (sofar LAG plan starts loads outside past).takes past st.controller off)
     heard c.listen.ensures.address c.listen.ensures.taking refl (sym (ap delivery_heard c.in-Nothing.is))
 
-pub returns-in-Took : goal.returns-in-Took
+pub returns-in-Took-clause-tick : goal.returns-in-Took-clause-tick
 unfolding StationStands
-returns-in-Took c = λ plan starts loads outside past st off here.
+returns-in-Took-clause-tick c = λ plan starts loads outside past st off here.
     let heard = c.listen.ensures.terminal plan starts loads outside past st here in
     served LAG plan starts loads outside c.args.self.now _ c.listen.result _ c.args.heard past st off
     (none-accepted c.listen.result _ (λ e. (let no : heards.Took c.in-Took.delivery ≡ heards.Accepted = sym c.in-Took.is ∙ e in cc)) heard.accepted)
     (c.listen.ensures.controller plan starts (sofar LAG plan starts loads outside past).takes past st.controller off)
     heard c.listen.ensures.address c.listen.ensures.taking refl (sym (ap delivery_heard c.in-Took.is))
 
-pub returns-in-Accepted : goal.returns-in-Accepted
+pub returns-in-Accepted-clause-tick : goal.returns-in-Accepted-clause-tick
 unfolding StationStands
-returns-in-Accepted c = λ plan starts loads outside past st off here.
+returns-in-Accepted-clause-tick c = λ plan starts loads outside past st off here.
     let kept = keeps LAG plan starts loads outside past in
     let heard = c.listen.ensures.terminal plan starts loads outside past st here in
     let (end, accepted) = some-end _ (subst (λ (e : TerminalEvent). AcceptedIs e (accepted_now LAG plan.terminal loads

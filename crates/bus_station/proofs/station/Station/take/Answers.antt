@@ -11,9 +11,9 @@ take_over-requires c =
     let (plan, starts, loads, outside, shown, past, st, off, after, left, early) = c.requires in
     (plan, starts, (sofar LAG plan starts loads outside (shown ∷ past)).takes, shown ∷ past, st.controller, after, left, omega (arith, early))
 
-pub returns : goal.returns
+pub returns-clause-stands : goal.returns-clause-stands
 unfolding StationStands
-returns c = λ plan starts loads outside shown past st off after early.
+returns-clause-stands c = λ plan starts loads outside shown past st off after early.
     took-itself LAG plan starts loads c.args.self.now c.take_over.new.self outside shown past c.args.first.0 st off after (omega (arith, early))
     c.take_over.ensures.address c.take_over.ensures.taking
     (c.take_over.ensures.controller plan starts (sofar LAG plan starts loads outside (shown ∷ past)).takes (shown ∷ past) st.controller after

@@ -1,6 +1,6 @@
 use Rattle.std.proofs.Common.{◌≡◌, drop}
 use Rattle.bus_model.specs.Memory.{loaded}
-use Rattle.bus_terminal.proofs.terminal.put_up.Given as goal
+use Rattle.bus_terminal.proofs.listening.put_up.Given as goal
 
 -- the loads so far are put up, and the others are left
 abbrev pub invariant-loop-load : goal.invariant-loop-load
