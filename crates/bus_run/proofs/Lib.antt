@@ -19,3 +19,4 @@ pub mod ObjectLaws
 pub mod AcceptedLaws
 pub mod PickedLaws
 pub mod PlaceLaws
+pub mod RoomLaws

@@ -10,3 +10,4 @@ pub mod Stands
 pub mod Kept
 pub mod Data
 pub mod Places
+pub mod Rooms

@@ -12,6 +12,7 @@ ghost use Rattle.bus_model.specs.WorldLog.{heard_word, heard_burst};
 ghost use Rattle.bus_model.specs.WorldLog as logs;
 ghost use Rattle.bus_run.specs.Deliveries.{Serves};
 ghost use Rattle.bus_run.specs.Kept.{places, IsPicked};
+ghost use Rattle.bus_run.specs.Rooms.{KeepRoom};
 ghost use Rattle.bus_run.specs.Parts.{StationsStand};
 ghost use Rattle.bus_run.specs.Ends.{has_ended};
 ghost use Rattle.bus_run.specs.Ends as ends;
@@ -54,7 +55,7 @@ impl Bus {
     ///
     /// # Errors
     ///
-    /// `AllocError` where there is no memory for it. Then no object is dropped, and what they tell and say stays.
+    /// `AllocError` where there is no memory for it. Then no object is dropped, what they tell and say stays, and none has less room.
     pub fn prepare(
         alloc: Global,
         plan: &Plan,
@@ -69,6 +70,7 @@ impl Bus {
             (map (λ b. spare b) subsystems.new.items)) }
         ensures told_still { OnErr result (map (λ b. told b) subsystems.new.items ≡ map (λ b. told b) subsystems.old.items) }
         ensures said_still { OnErr result (map (λ b. said b) subsystems.new.items ≡ map (λ b. said b) subsystems.old.items) }
+        ensures room_still { OnErr result (KeepRoom (map (λ b. spare b) subsystems.old.items) (map (λ b. spare b) subsystems.new.items)) }
     {
         the_stations_of_an_accepted_plan_fit();
         let most_attempts = most_attempts(plan);

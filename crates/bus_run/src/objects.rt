@@ -2,14 +2,15 @@
 ghost use Rattle.std.specs.Prelude.{◌≡◌, ◌≢◌, ◌≤◌, ◌<◌, ◌+◌, ℕ, map, length, slice_get, All, OnOk, Some};
 ghost use Rattle.bus_subsystem.specs.Deliveries.{Takes};
 ghost use Rattle.bus_run.specs.Kept.{places_from, HasRoom};
+ghost use Rattle.bus_run.specs.Rooms.{KeepRoom};
 
 use crate::kept::place_of;
 use bus_formats::{Delivery, SubsystemKind};
 use bus_subsystem::Subsystem;
 use std::alloc::AllocError;
 
-/// Makes room for so many deliveries in each object that the addresses 0 to 30 name. What the objects tell and say stays, also where there is
-/// no memory.
+/// Makes room for so many deliveries in each object that the addresses 0 to 30 name. What the objects tell and say stays, and none loses room,
+/// also where there is no memory.
 ///
 /// # Errors
 ///
@@ -23,6 +24,7 @@ pub fn reserve_named(
     requires named { length named.now ≡ 31 }
     ensures told { map (λ b. told b) subsystems.new.items ≡ map (λ b. told b) subsystems.old.items }
     ensures said { map (λ b. said b) subsystems.new.items ≡ map (λ b. said b) subsystems.old.items }
+    ensures spare { KeepRoom (map (λ b. spare b) subsystems.old.items) (map (λ b. spare b) subsystems.new.items) }
     ensures len { length subsystems.new.items ≡ length subsystems.old.items }
     ensures room { OnOk result (All (HasRoom n (map (λ b. spare b) subsystems.new.items)) (places_from 0 named.now)) }
 {

@@ -13,9 +13,10 @@ use Rattle.bus_model.specs.WorldLog.{world_log}
 use Rattle.bus_run.specs.declared.finished.FinishedBus.{FinishedBus}
 use Rattle.bus_tool.specs.Answers.{Answers}
 use Rattle.bus_tool.specs.Due.{input_refusal}
-use Rattle.bus_tool.specs.Ends.{ReadsInput, Ran, WasRefused, Stopped, DidNothing, IsFine, EndsRun}
+use Rattle.bus_tool.specs.Ends.{ReadsInput, Ran, WasRefused, Stopped, RanOut, IsFine, EndsRun}
 use Rattle.bus_tool.specs.Texts.{plan_run, text_of, status_of}
 use Rattle.bus_tool.specs.declared.text.Text.{Text}
+use Rattle.bus_tool.proofs.Answering.{untouched}
 
 -- an input is refused or not
 one_refusal : (o : Option (List ℕ)) (text : List ℕ) → o ≡ Some text → o ≡ None → ⊥
@@ -50,11 +51,11 @@ status-few log = go (all_went_well log)
     go false = omega arith
 
 module _ (left0 left1 held0 held1 : Option (List ℕ)) (source0 source1 sink0 sink1 : ℕ)
-    (told0 told1 : List (Option (List Delivery))) (said0 said1 : List (List ℕ)) (text : Text)
+    (told0 told1 : List (Option (List Delivery))) (said0 said1 : List (List ℕ)) (spare0 spare1 : List ℕ) (text : Text)
     (later_source : source0 ≤ source1) (later_sink : sink0 ≤ sink1) where
   ran_ends : (status : ℕ) (bus : Option FinishedBus) → status ≤ 1 →
-      Ran left0 left1 held0 held1 source0 source1 sink0 sink1 status bus told0 told1 said0 said1 text →
-      EndsRun left0 left1 held0 held1 source0 source1 sink0 sink1 status bus told0 told1 said0 said1 text
+      Ran left0 left1 held0 held1 source0 source1 sink0 sink1 status bus told0 told1 said0 said1 spare0 spare1 text →
+      EndsRun left0 left1 held0 held1 source0 source1 sink0 sink1 status bus told0 told1 said0 said1 spare0 spare1 text
   ran_ends status bus few ran = record {
     range = omega (arith, few);
     later_source = later_source;
@@ -69,8 +70,8 @@ module _ (left0 left1 held0 held1 : Option (List ℕ)) (source0 source1 sink0 si
     complete = λ _. zero-or-one status few;
   }
 
-  refused_ends : WasRefused left0 left1 held0 held1 source0 source1 sink0 sink1 3 None told0 told1 said0 said1 →
-      EndsRun left0 left1 held0 held1 source0 source1 sink0 sink1 3 None told0 told1 said0 said1 text
+  refused_ends : WasRefused left0 left1 held0 held1 source0 source1 sink0 sink1 3 None told0 told1 said0 said1 spare0 spare1 →
+      EndsRun left0 left1 held0 held1 source0 source1 sink0 sink1 3 None told0 told1 said0 said1 spare0 spare1 text
   refused_ends refused = record {
     range = omega arith;
     later_source = later_source;
@@ -85,15 +86,15 @@ module _ (left0 left1 held0 held1 : Option (List ℕ)) (source0 source1 sink0 si
     complete = λ fine. absurd (not_fine fine);
   }
     where
-      not_fine : IsFine left0 left1 held0 held1 source0 source1 sink0 sink1 3 None told0 told1 said0 said1 → ⊥
+      not_fine : IsFine left0 left1 held0 held1 source0 source1 sink0 sink1 3 None told0 told1 said0 said1 spare0 spare1 → ⊥
       not_fine fine =
           let read : ReadsInput (Some fine.told) left1 refused.input = subst (λ l. ReadsInput l left1 refused.input) fine.left refused.read in
           let is : refused.input ≡ take 4194305 fine.told = told_input fine.told refused.input left1 read in
           let none : input_refusal refused.input ≡ None = ap input_refusal is ∙ fine.accepted in
           one_refusal (input_refusal refused.input) refused.line refused.due none
 
-  stopped_ends : Rose sink0 sink1 → Stopped left0 left1 held0 held1 source0 source1 sink0 sink1 5 None told0 told1 said0 said1 text →
-      EndsRun left0 left1 held0 held1 source0 source1 sink0 sink1 5 None told0 told1 said0 said1 text
+  stopped_ends : Rose sink0 sink1 → Stopped left0 left1 held0 held1 source0 source1 sink0 sink1 5 None told0 told1 said0 said1 spare0 spare1 text →
+      EndsRun left0 left1 held0 held1 source0 source1 sink0 sink1 5 None told0 told1 said0 said1 spare0 spare1 text
   stopped_ends rose stopped = record {
     range = omega arith;
     later_source = later_source;
@@ -108,8 +109,8 @@ module _ (left0 left1 held0 held1 : Option (List ℕ)) (source0 source1 sink0 si
     complete = λ fine. absurd (fine.sink rose);
   }
 
-  memory_ends : DidNothing left0 left1 held0 held1 source0 source1 sink0 sink1 6 None told0 told1 said0 said1 →
-      EndsRun left0 left1 held0 held1 source0 source1 sink0 sink1 6 None told0 told1 said0 said1 text
+  memory_ends : RanOut left0 left1 held0 held1 source0 source1 sink0 sink1 6 None told0 told1 said0 said1 spare0 spare1 text →
+      EndsRun left0 left1 held0 held1 source0 source1 sink0 sink1 6 None told0 told1 said0 said1 spare0 spare1 text
   memory_ends same = record {
     range = omega arith;
     later_source = later_source;
@@ -126,8 +127,8 @@ module _ (left0 left1 held0 held1 : Option (List ℕ)) (source0 source1 sink0 si
 
   -- what the answer to an input that was read shows
   pub answered : (input : List ℕ) (status : ℕ) (bus : Option FinishedBus) → ReadsInput left0 left1 input →
-      Answers held0 held1 sink0 sink1 status bus told0 told1 said0 said1 text input →
-      EndsRun left0 left1 held0 held1 source0 source1 sink0 sink1 status bus told0 told1 said0 said1 text
+      Answers held0 held1 sink0 sink1 status bus told0 told1 said0 said1 spare0 spare1 text input →
+      EndsRun left0 left1 held0 held1 source0 source1 sink0 sink1 status bus told0 told1 said0 said1 spare0 spare1 text
   answered input status bus read answers = elim answers.answer [
     | inl ran ↦ elim ran.wrote [
       | inl done ↦
@@ -168,3 +169,11 @@ module _ (left0 left1 held0 held1 : Option (List ℕ)) (source0 source1 sink0 si
       | inr wanting ↦ rw (wanting.status_is, wanting.no_bus) (memory_ends record { unwritten = wanting.unwritten; objects = wanting.objects })
     ]
   ]
+
+-- memory was wanting before the input was read
+pub wants-input : (left0 left1 held : Option (List ℕ)) (source0 source1 sink : ℕ) (told : List (Option (List Delivery))) (said : List (List ℕ))
+    (spare : List ℕ) (text : Text) → source0 ≤ source1 →
+    EndsRun left0 left1 held held source0 source1 sink sink 6 None told told said said spare spare text
+wants-input left0 left1 held source0 source1 sink told said spare text later =
+    memory_ends left0 left1 held held source0 source1 sink sink told told said said spare spare text later (omega arith)
+    record { unwritten = refl; objects = untouched told said spare text }

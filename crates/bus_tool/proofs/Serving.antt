@@ -29,12 +29,12 @@ as-begun plan before told spare serves = serves
 
 -- the answer to a plan that was run for its report
 pub served-after : (held0 held1 : Option (List ℕ)) (sink0 sink1 status : ℕ) (bus : Option FinishedBus)
-    (told0 told1 : List (Option (List Delivery))) (said0 said1 : List (List ℕ)) (plan : PlanData) (before : List (Option (List Delivery))) (spare : List ℕ)
+    (told0 told1 : List (Option (List Delivery))) (said0 said1 : List (List ℕ)) (spare0 spare1 : List ℕ) (plan : PlanData) (before : List (Option (List Delivery)))
     (ticks : ℕ) → sink0 ≤ sink1 → EndsAfter plan 0 ticks → IsPicked told0 (places plan) before →
-    Serves plan before (world LAG plan [] [] [] ticks) told1 spare →
+    Serves plan before (world LAG plan [] [] [] ticks) told1 spare1 →
     Wrote held0 held1 sink0 sink1 status bus (text_of Report plan ticks said1) plan ticks →
-    AnswersRun held0 held1 sink0 sink1 status bus told0 told1 said0 said1 Report plan
-served-after held0 held1 sink0 sink1 status bus told0 told1 said0 said1 plan before spare ticks later ends picked serves wrote = record {
+    AnswersRun held0 held1 sink0 sink1 status bus told0 told1 said0 said1 spare0 spare1 Report plan
+served-after held0 held1 sink0 sink1 status bus told0 told1 said0 said1 spare0 spare1 plan before ticks later ends picked serves wrote = record {
   later = later;
   answer = inl (ticks, ends, record { before = before; picked = picked; all_before = serves.all_before; all = serves.all; told = serves.tells }, wrote);
 }

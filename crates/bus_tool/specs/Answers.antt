@@ -10,7 +10,7 @@ use Rattle.bus_plan.specs.PlanOf.{plan_of_bytes}
 use Rattle.bus_run.specs.Stands.{EndsAfter, FinishedStands}
 use Rattle.bus_run.specs.declared.finished.FinishedBus.{FinishedBus}
 use Rattle.bus_tool.specs.Due.{input_refusal}
-use Rattle.bus_tool.specs.Objects.{AreSame, AfterRun}
+use Rattle.bus_tool.specs.Objects.{AreSame, AfterRun, AfterWant}
 use Rattle.bus_tool.specs.Texts.{plan_run, text_of, status_of}
 use Rattle.bus_tool.specs.declared.text.Text.{Text}
 
@@ -46,19 +46,19 @@ module _ (held0 held1 : Option (List ℕ)) (sink0 sink1 : ℕ) (status : ℕ) (b
   Wrote bytes plan ticks = WroteRun bytes plan ticks ⊎ WroteFront bytes
 
 module _ (held0 held1 : Option (List ℕ)) (sink0 sink1 : ℕ) (status : ℕ) (bus : Option FinishedBus)
-    (told0 told1 : List (Option (List Delivery))) (said0 said1 : List (List ℕ)) where
-  -- memory was wanting: nothing was written, and the objects stay
-  pub record WantedMemory : Type 0 where
+    (told0 told1 : List (Option (List Delivery))) (said0 said1 : List (List ℕ)) (spare0 spare1 : List ℕ) where
+  -- memory was wanting: nothing was written, and no object lost what it had
+  pub record WantedMemory (text : Text) : Type 0 where
     pub status_is : status ≡ 6
     pub no_bus : bus ≡ None
     pub unwritten : held1 ≡ held0
-    pub objects : AreSame told0 told1 said0 said1
+    pub objects : AfterWant told0 told1 said0 said1 spare0 spare1 text
 
   -- the answer to a plan that is run
   pub record AnswersRun (text : Text) (plan : PlanData) : Type 0 where
     pub later : sink0 ≤ sink1
-    pub answer : ((ticks : ℕ) × EndsAfter plan 0 ticks × AfterRun told0 told1 said0 said1 text plan ticks
-        × Wrote held0 held1 sink0 sink1 status bus (text_of text plan ticks said1) plan ticks) ⊎ WantedMemory
+    pub answer : ((ticks : ℕ) × EndsAfter plan 0 ticks × AfterRun told0 told1 said0 said1 spare0 spare1 text plan ticks
+        × Wrote held0 held1 sink0 sink1 status bus (text_of text plan ticks said1) plan ticks) ⊎ WantedMemory text
 
   -- the plan that was read was run
   pub record RanPlan (text : Text) (input : List ℕ) : Type 0 where
@@ -67,7 +67,7 @@ module _ (held0 held1 : Option (List ℕ)) (sink0 sink1 : ℕ) (status : ℕ) (b
     pub read : plan_of_bytes input ≡ Ok plan
     pub ticks : ℕ
     pub ends : EndsAfter (plan_run text plan) 0 ticks
-    pub objects : AfterRun told0 told1 said0 said1 text (plan_run text plan) ticks
+    pub objects : AfterRun told0 told1 said0 said1 spare0 spare1 text (plan_run text plan) ticks
     pub wrote : Wrote held0 held1 sink0 sink1 status bus (text_of text (plan_run text plan) ticks said1) (plan_run text plan) ticks
 
   -- the input was refused with its line, and the objects stay
@@ -75,9 +75,9 @@ module _ (held0 held1 : Option (List ℕ)) (sink0 sink1 : ℕ) (status : ℕ) (b
     pub line : List ℕ
     pub due : input_refusal input ≡ Some line
     pub answer : AnswersRefused held0 held1 sink0 sink1 status bus line
-    pub objects : AreSame told0 told1 said0 said1
+    pub objects : AreSame told0 told1 said0 said1 spare0 spare1
 
   -- the answer to an input
   pub record Answers (text : Text) (input : List ℕ) : Type 0 where
     pub later : sink0 ≤ sink1
-    pub answer : RanPlan text input ⊎ WasRefusedWith input ⊎ WantedMemory
+    pub answer : RanPlan text input ⊎ WasRefusedWith input ⊎ WantedMemory text

@@ -50,17 +50,17 @@ refusal_of (Ok plan) = None
 abbrev pub input_refusal : List ℕ → Option (List ℕ)
 input_refusal input = if nat_lt limit (length input) then Some too_long else refusal_of (plan_of_bytes input)
 
-module _ (told0 told1 : List (Option (List Delivery))) (said0 said1 : List (List ℕ)) where
+module _ (told0 told1 : List (Option (List Delivery))) (said0 said1 : List (List ℕ)) (spare0 spare1 : List ℕ) where
   -- the bytes are the text of the whole run of the plan that was read
   pub record IsRunOf (text : Text) (input bytes : List ℕ) : Type 0 where
     pub plan : PlanData
     pub read : plan_of_bytes input ≡ Ok plan
     pub ticks : ℕ
     pub ends : EndsAfter (plan_run text plan) 0 ticks
-    pub objects : AfterRun told0 told1 said0 said1 text (plan_run text plan) ticks
+    pub objects : AfterRun told0 told1 said0 said1 spare0 spare1 text (plan_run text plan) ticks
     pub bytes_are : bytes ≡ text_of text (plan_run text plan) ticks said1
 
   -- bytes that are due for an input, with the objects as they are then: the line of a refusal, at which they stay, or the text of a run
   abbrev pub IsDue : Text → List ℕ → List ℕ → Type 0
   IsDue text input bytes =
-      ((input_refusal input ≡ Some bytes) × AreSame told0 told1 said0 said1) ⊎ ((input_refusal input ≡ None) × IsRunOf text input bytes)
+      ((input_refusal input ≡ Some bytes) × AreSame told0 told1 said0 said1 spare0 spare1) ⊎ ((input_refusal input ≡ None) × IsRunOf text input bytes)

@@ -1,6 +1,6 @@
 -- What each answer of the top call shows: how it came about, what was read, what was written, and what became of the objects for
 -- subsystems. Everything is said over what the source had left and the sink held before and after, where they tell it, over their counts of
--- faults, and over what the objects told and said before and after, in their order.
+-- faults, and over what the objects told and said and their room before and after, in their order.
 use Rattle.std.specs.Prelude.{◌≡◌, ℕ, ◌+◌, ◌≤◌, ◌⊎◌, List, take, length, Option, Some, None, Ok}
 use Rattle.std.specs.Io.KnownBytes.{Consumes, IsAtEnd, Appends}
 use Rattle.bus_base.specs.declared.samples.Pair.{Pair}
@@ -19,7 +19,7 @@ use Rattle.bus_run.specs.Stands.{EndsAfter, FinishedStands}
 use Rattle.bus_run.specs.declared.finished.FinishedBus.{FinishedBus}
 use Rattle.bus_tool.specs.Answers.{WroteDue}
 use Rattle.bus_tool.specs.Due.{limit, input_refusal, words_refused, capture_refusal_line, IsDue}
-use Rattle.bus_tool.specs.Objects.{AreSame, AfterRun}
+use Rattle.bus_tool.specs.Objects.{AreSame, AfterRun, AfterWant}
 use Rattle.bus_tool.specs.Texts.{plan_run, text_of, status_of}
 use Rattle.bus_tool.specs.declared.words.Command.{Command}
 use Rattle.bus_tool.specs.declared.words.Command.TheVariants as commands
@@ -52,14 +52,15 @@ module _ (left0 left1 held0 held1 : Option (List ℕ)) (source0 source1 sink0 si
     pub answer : StatusAfter held held1 sink sink1 status listing
 
 module _ (left0 left1 held0 held1 : Option (List ℕ)) (source0 source1 sink0 sink1 : ℕ) (status : ℕ) (bus : Option FinishedBus)
-    (told0 told1 : List (Option (List Delivery))) (said0 said1 : List (List ℕ)) where
+    (told0 told1 : List (Option (List Delivery))) (said0 said1 : List (List ℕ)) (spare0 spare1 : List ℕ) where
   -- ---- words without a meaning
 
-  -- the status is 2, or 5 where the line's write failed; nothing is read, and the objects stay
+  -- the status is 2, or 5 where the line's write failed; nothing is read, the source has no fault more, and the objects stay
   pub record EndsUnmeant : Type 0 where
     pub no_bus : bus ≡ None
-    pub objects : AreSame told0 told1 said0 said1
+    pub objects : AreSame told0 told1 said0 said1 spare0 spare1
     pub unread : left1 ≡ left0
+    pub untried : source1 ≡ source0
     pub later : sink0 ≤ sink1
     pub wrote : WroteDue held0 held1 sink0 sink1 status 2 words_refused
 
@@ -78,7 +79,7 @@ module _ (left0 left1 held0 held1 : Option (List ℕ)) (source0 source1 sink0 si
     pub left : FinishedBus
     pub has : bus ≡ Some left
     pub stands : FinishedStands (plan_run text plan) ticks left
-    pub objects : AfterRun told0 told1 said0 said1 text (plan_run text plan) ticks
+    pub objects : AfterRun told0 told1 said0 said1 spare0 spare1 text (plan_run text plan) ticks
     pub status_is : status ≡ status_of (world_log LAG (plan_run text plan) ticks)
     pub written : Appends held0 held1 (text_of text (plan_run text plan) ticks said1)
 
@@ -89,20 +90,25 @@ module _ (left0 left1 held0 held1 : Option (List ℕ)) (source0 source1 sink0 si
     pub line : List ℕ
     pub due : input_refusal input ≡ Some line
     pub written : Appends held0 held1 line
-    pub objects : AreSame told0 told1 said0 said1
+    pub objects : AreSame told0 told1 said0 said1 spare0 spare1
 
   -- a front of the bytes that were due was written
   pub record Stopped (text : Text) : Type 0 where
     pub input : List ℕ
     pub read : ReadsInput left0 left1 input
     pub bytes : List ℕ
-    pub due : IsDue told0 told1 said0 said1 text input bytes
+    pub due : IsDue told0 told1 said0 said1 spare0 spare1 text input bytes
     pub front : GrowsByFront held0 held1 bytes
 
   -- nothing was written, and the objects stay
   pub record DidNothing : Type 0 where
     pub unwritten : held1 ≡ held0
-    pub objects : AreSame told0 told1 said0 said1
+    pub objects : AreSame told0 told1 said0 said1 spare0 spare1
+
+  -- memory was wanting: nothing was written, and no object lost what it had
+  pub record RanOut (text : Text) : Type 0 where
+    pub unwritten : held1 ≡ held0
+    pub objects : AfterWant told0 told1 said0 said1 spare0 spare1 text
 
   -- the input isn't refused, and neither the source nor the sink failed
   pub record IsFine : Type 0 where
@@ -129,7 +135,7 @@ module _ (left0 left1 held0 held1 : Option (List ℕ)) (source0 source1 sink0 si
     -- 5: only where the sink failed; a front of the bytes that were due was written
     pub write_fault : status ≡ 5 → Rose sink0 sink1 × Stopped text
     -- 6: want of memory, and nothing was written
-    pub memory : status ≡ 6 → DidNothing
+    pub memory : status ≡ 6 → RanOut text
     -- where all is fine it is done, unless memory is wanting
     pub complete : IsFine → (status ≡ 0) ⊎ (status ≡ 1) ⊎ (status ≡ 6)
 
@@ -138,7 +144,7 @@ module _ (left0 left1 held0 held1 : Option (List ℕ)) (source0 source1 sink0 si
   -- the objects stay
   pub record EndsListing (lines whole : List Pair → List ℕ) : Type 0 where
     pub no_bus : bus ≡ None
-    pub objects : AreSame told0 told1 said0 said1
+    pub objects : AreSame told0 told1 said0 said1 spare0 spare1
     pub lists : ListsCapture left0 left1 held0 held1 source0 source1 sink0 sink1 status lines whole
 
   -- ---- every command

@@ -34,7 +34,8 @@ pub fn answer<K: Sink>(
     requires { vec_len subsystems.old ≡ 62 }
     ensures { Answers (K.held sink.old) (K.held sink.new) (K.faults sink.old) (K.faults sink.new) result.status result.bus
         (map (λ b. told b) subsystems.old.items) (map (λ b. told b) subsystems.new.items)
-        (map (λ b. said b) subsystems.old.items) (map (λ b. said b) subsystems.new.items) text input.now }
+        (map (λ b. said b) subsystems.old.items) (map (λ b. said b) subsystems.new.items)
+        (map (λ b. spare b) subsystems.old.items) (map (λ b. spare b) subsystems.new.items) text input.now }
 {
     if input.len() > LIMIT {
         return refuse(b"input refused too-long\n", sink);
@@ -77,7 +78,8 @@ fn run_plan<K: Sink>(
     requires all { vec_len subsystems.old ≡ 62 }
     ensures { AnswersRun (K.held sink.old) (K.held sink.new) (K.faults sink.old) (K.faults sink.new) result.status result.bus
         (map (λ b. told b) subsystems.old.items) (map (λ b. told b) subsystems.new.items)
-        (map (λ b. said b) subsystems.old.items) (map (λ b. said b) subsystems.new.items) text (plan_run text plan) }
+        (map (λ b. said b) subsystems.old.items) (map (λ b. said b) subsystems.new.items)
+        (map (λ b. spare b) subsystems.old.items) (map (λ b. spare b) subsystems.new.items) text (plan_run text plan) }
 {
     match text {
         Text::Report => report_run(alloc, &plan, sink, subsystems),
@@ -96,7 +98,8 @@ fn report_run<K: Sink>(
     requires all { vec_len subsystems.old ≡ 62 }
     ensures { AnswersRun (K.held sink.old) (K.held sink.new) (K.faults sink.old) (K.faults sink.new) result.status result.bus
         (map (λ b. told b) subsystems.old.items) (map (λ b. told b) subsystems.new.items)
-        (map (λ b. said b) subsystems.old.items) (map (λ b. said b) subsystems.new.items) Text.Report plan.now }
+        (map (λ b. said b) subsystems.old.items) (map (λ b. said b) subsystems.new.items)
+        (map (λ b. spare b) subsystems.old.items) (map (λ b. spare b) subsystems.new.items) Text.Report plan.now }
 {
     match Bus::prepare(alloc, plan, subsystems) {
         Err(_) => Ended {
@@ -142,9 +145,9 @@ fn write_report<K: Sink>(
 fn capture_run<K: Sink>(alloc: Global, plan: Plan, sink: &mut K) -> Ended
     requires accepted { IsAccepted plan }
     requires none { places plan ≡ [] }
-    ensures { (other_told : List (Option (List Delivery))) (other_said : List (List ℕ)) →
+    ensures { (other_told : List (Option (List Delivery))) (other_said : List (List ℕ)) (other_spare : List ℕ) →
         AnswersRun (K.held sink.old) (K.held sink.new) (K.faults sink.old) (K.faults sink.new) result.status result.bus
-        other_told other_told other_said other_said Text.Capture plan }
+        other_told other_told other_said other_said other_spare other_spare Text.Capture plan }
 {
     let mut subsystems: Vec<Box<dyn Subsystem>> = Vec::new(alloc);
     match Bus::prepare(alloc, &plan, &mut subsystems) {
@@ -160,10 +163,10 @@ fn capture_run<K: Sink>(alloc: Global, plan: Plan, sink: &mut K) -> Ended
 fn captured<K: Sink>(bus: Bus, sink: &mut K, subsystems: &mut Vec<Box<dyn Subsystem>>) -> Ended
     requires { (plan : PlanData) × (before : List (Option (List Delivery))) × BusStands plan 0 bus
         × Serves plan before [] (map (λ b. told b) subsystems.old.items) (map (λ b. spare b) subsystems.old.items) }
-    ensures { (plan : PlanData) (before other_told : List (Option (List Delivery))) (other_said : List (List ℕ)) → BusStands plan 0 bus →
+    ensures { (plan : PlanData) (before other_told : List (Option (List Delivery))) (other_said : List (List ℕ)) (other_spare : List ℕ) → BusStands plan 0 bus →
         Serves plan before [] (map (λ b. told b) subsystems.old.items) (map (λ b. spare b) subsystems.old.items) →
         AnswersRun (K.held sink.old) (K.held sink.new) (K.faults sink.old) (K.faults sink.new) result.status result.bus
-        other_told other_told other_said other_said Text.Capture plan }
+        other_told other_told other_said other_said other_spare other_spare Text.Capture plan }
 {
     match write_capture(bus, sink, subsystems) {
         Ok(left) => {

@@ -28,7 +28,8 @@ use std::alloc::Global;
 /// - 6: memory ran out, and nothing was written; never for a listing.
 ///
 /// After `run` of an accepted plan, with 0, 1 or 5, those objects are left that the plan names, in order of address, and each has taken
-/// the blocks that its terminal took. In all other cases the objects tell and say what they did; at 6 they may have more room.
+/// the blocks that its terminal took. In all other cases the objects tell and say what they did and have the room that they had; only where
+/// memory ran out for `run` may they have more.
 pub fn bus_tool<S: Source, K: Sink>(
     alloc: Global,
     words: &[String],
@@ -41,6 +42,7 @@ pub fn bus_tool<S: Source, K: Sink>(
         (S.faults source.old) (S.faults source.new) (K.faults sink.old) (K.faults sink.new) result.status result.bus
         (map (λ b. told b) subsystems.old.items) (map (λ b. told b) subsystems.new.items)
         (map (λ b. said b) subsystems.old.items) (map (λ b. said b) subsystems.new.items)
+        (map (λ b. spare b) subsystems.old.items) (map (λ b. spare b) subsystems.new.items)
         (meaning (map string_bytes words.now)) }
 {
     match command_of(words) {
@@ -83,7 +85,8 @@ fn run<S: Source, K: Sink>(
     ensures { EndsRun (S.left source.old) (S.left source.new) (K.held sink.old) (K.held sink.new)
         (S.faults source.old) (S.faults source.new) (K.faults sink.old) (K.faults sink.new) result.status result.bus
         (map (λ b. told b) subsystems.old.items) (map (λ b. told b) subsystems.new.items)
-        (map (λ b. said b) subsystems.old.items) (map (λ b. said b) subsystems.new.items) text }
+        (map (λ b. said b) subsystems.old.items) (map (λ b. said b) subsystems.new.items)
+        (map (λ b. spare b) subsystems.old.items) (map (λ b. spare b) subsystems.new.items) text }
 {
     match read_input(alloc, source) {
         Err(Stop::Fault) => Ended {

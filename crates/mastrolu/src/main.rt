@@ -6,6 +6,7 @@ use bus_outside::{ReadSource, WriteSink};
 use bus_subsystem::{Recorder, Subsystem, Tally};
 use bus_tool::bus_tool;
 use std::env;
+use std::io::ErrorKind;
 use std::process::ExitCode;
 
 /// The status where memory for the words or the objects is refused.
@@ -16,13 +17,17 @@ const ADDRESSES: usize = 31;
 
 fn main(rt: HostRuntime) -> ExitCode {
     let mut words = Vec::new(rt.alloc());
-    let Ok(args) = env::args(&rt) else {
-        return ExitCode::from(NO_MEMORY);
-    };
-    for word in args.skip(1) {
-        if words.push(word).is_err() {
-            return ExitCode::from(NO_MEMORY);
+    match env::args(&rt) {
+        Ok(args) => {
+            for word in args.skip(1) {
+                if words.push(word).is_err() {
+                    return ExitCode::from(NO_MEMORY);
+                }
+            }
         }
+        Err(error) if error.kind() == ErrorKind::OutOfMemory => return ExitCode::from(NO_MEMORY),
+        // A word that is no text has no meaning, and no words have none either.
+        Err(_) => {}
     }
     // The recorders of the addresses 0 to 30, and then the tallies of these. They are made here, since no function may hand out a boxed object.
     let mut subsystems: Vec<Box<dyn Subsystem>> = Vec::new(rt.alloc());

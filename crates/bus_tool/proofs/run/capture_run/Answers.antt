@@ -8,4 +8,4 @@ pub captured-requires : goal.captured-requires
 captured-requires g c = (c.args.plan, _, c.in-Ok.ensures.bus, c.in-Ok.ensures.serves)
 
 pub returns : goal.returns
-returns g c told said = c.captured.ensures c.args.plan _ told said c.in-Ok.ensures.bus c.in-Ok.ensures.serves
+returns g c told said spare = c.captured.ensures c.args.plan _ told said spare c.in-Ok.ensures.bus c.in-Ok.ensures.serves

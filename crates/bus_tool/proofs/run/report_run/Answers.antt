@@ -18,5 +18,5 @@ write_report-requires-clause-ran g c =
 pub returns-in-Ok : goal.returns-in-Ok
 returns-in-Ok g c =
     let end = c.finish-left.ensures c.args.plan.now 0 _ c.in-Ok.ensures.bus (as-begun c.args.plan.now _ _ _ c.in-Ok.ensures.serves) in
-    served-after _ _ _ _ _ _ _ _ _ _ c.args.plan.now _ _ end.0 c.write_report.ensures.later end.1 c.in-Ok.ensures.told end.3
+    served-after _ _ _ _ _ _ _ _ _ _ _ _ c.args.plan.now _ end.0 c.write_report.ensures.later end.1 c.in-Ok.ensures.told end.3
     (c.write_report.ensures.wrote end.0 end.2)

@@ -10,9 +10,9 @@ pub capture_run-requires-clause-none : goal.capture_run-requires-clause-none
 capture_run-requires-clause-none g c = rw c.without_subsystems.ensures (places-without c.args.plan)
 
 pub returns-in-Report : goal.returns-in-Report
-returns-in-Report g c = reports _ _ _ _ _ _ _ _ _ _ c.args.text c.args.plan c.in-Report.is c.report_run.ensures
+returns-in-Report g c = reports _ _ _ _ _ _ _ _ _ _ _ _ c.args.text c.args.plan c.in-Report.is c.report_run.ensures
 
 pub returns-in-Capture : goal.returns-in-Capture
 returns-in-Capture g c =
-    captures _ _ _ _ _ _ _ _ _ _ c.args.text c.args.plan c.without_subsystems.result c.in-Capture.is c.without_subsystems.ensures
-    (c.capture_run.ensures _ _)
+    captures _ _ _ _ _ _ _ _ _ _ _ _ c.args.text c.args.plan c.without_subsystems.result c.in-Capture.is c.without_subsystems.ensures
+    (c.capture_run.ensures _ _ _)

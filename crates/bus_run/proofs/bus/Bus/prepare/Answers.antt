@@ -1,4 +1,4 @@
-use Rattle.std.proofs.Common.{◌≡◌, ◌*◌, ◌+◌, [], ◌∙◌, ap, arith, sym, subst, refl, ℕ}
+use Rattle.std.proofs.Common.{◌≡◌, ◌*◌, ◌+◌, [], ◌∙◌, ap, arith, map, sym, subst, refl, ℕ}
 use Rattle.bus_run.specs.Amounts.{most_attempts, most_words, most_bursts}
 use Rattle.bus_run.specs.StationRows.{RowStands}
 use Rattle.bus_run.specs.Monitors.{MonitorStands}
@@ -8,6 +8,7 @@ use Rattle.bus_run.proofs.BusLaws.{world-none, driven-none}
 use Rattle.bus_formats.specs.Plans.{PlanData}
 use Rattle.bus_run.specs.Kept.{named_in}
 use Rattle.bus_run.proofs.PickedLaws.{places-given, picked-places, picked-serves}
+use Rattle.bus_run.proofs.RoomLaws.{err-same-room}
 use Rattle.bus_run.proofs.bus.Bus.prepare.Goals as goal
 
 pub reserve_named-requires-clause-places : goal.reserve_named-requires-clause-places
@@ -61,3 +62,19 @@ returns-clause-serves g c =
     picked-serves (λ b. (goal.Subsystem-dyn g (b.vtable, b.value)).told b.value) (λ b. (goal.Subsystem-dyn g (b.vtable, b.value)).spare b.value)
     c.reserve_named.new.subsystems.items c.keep_named.new.subsystems.items c.args.plan.now c.named_in-named.result
     (3 * c.most_attempts-most_attempts.result + 1) named c.keep_named.ensures c.in_ok-reserve_named.ensures.room (omega (arith, most))
+
+pub returns-in_err-row-clause-room_still : goal.returns-in_err-row-clause-room_still
+returns-in_err-row-clause-room_still g c =
+    err-same-room _ (map (λ b. (goal.Subsystem-dyn g (b.vtable, b.value)).spare b.value) c.args.subsystems.now.items)
+
+pub returns-in_err-wire-clause-room_still : goal.returns-in_err-wire-clause-room_still
+returns-in_err-wire-clause-room_still g c =
+    err-same-room _ (map (λ b. (goal.Subsystem-dyn g (b.vtable, b.value)).spare b.value) c.args.subsystems.now.items)
+
+pub returns-in_err-monitor-clause-room_still : goal.returns-in_err-monitor-clause-room_still
+returns-in_err-monitor-clause-room_still g c =
+    err-same-room _ (map (λ b. (goal.Subsystem-dyn g (b.vtable, b.value)).spare b.value) c.args.subsystems.now.items)
+
+pub returns-in_err-ends-clause-room_still : goal.returns-in_err-ends-clause-room_still
+returns-in_err-ends-clause-room_still g c =
+    err-same-room _ (map (λ b. (goal.Subsystem-dyn g (b.vtable, b.value)).spare b.value) c.args.subsystems.now.items)
