@@ -25,7 +25,7 @@ use Rattle.bus_plan.proofs.ItemLaws.{or_none_left, or_none_right, contains_addre
 use Rattle.bus_plan.proofs.FaultLaws.{faults_apart, limits_kept}
 
 -- a list of findings that finds nothing
-first_none : {T : Type 0} (make : T → PlanRefusal) (x : Option T) (more : List (Option PlanRefusal)) → first_of (option_map make x ∷ more) ≡ None
+pub first_none : {T : Type 0} (make : T → PlanRefusal) (x : Option T) (more : List (Option PlanRefusal)) → first_of (option_map make x ∷ more) ≡ None
     → (x ≡ None) × (first_of more ≡ None)
 first_none make None more h = (refl, h)
 first_none make (Some x) more h = absurd (cc)
@@ -71,11 +71,11 @@ controller p head ms h e =
     }
 
 module _ (doc : Members) where
-  abbrev plan : PlanData
+  abbrev pub plan : PlanData
   plan = plan_of (head_of doc) doc
 
   -- a document's plan in which no rule on stations, items, faults and amounts is broken
-  accepted_plan : item_refusal plan ≡ None → fault_refusal (head_of doc) doc plan ≡ None → IsAccepted plan
+  pub accepted_plan : item_refusal plan ≡ None → fault_refusal (head_of doc) doc plan ≡ None → IsAccepted plan
   accepted_plan i f =
       let same = first_none _ (same_address plan.stations 0 plan.stations) _ i in
       let where_to = first_none _ (or_place (start_missing plan) (in_stations rules.NoSuchStation plan.stations 1 plan.stations)) _ same.1 in
@@ -104,7 +104,7 @@ module _ (doc : Members) where
         limits = limits_kept (head_of doc) plan amounts.0;
       }
 
-unless_ok : (r : Option PlanRefusal) (answer : Result PlanData PlanRefusal) (p : PlanData) → unless r answer ≡ Ok p → (r ≡ None) × (answer ≡ Ok p)
+pub unless_ok : (r : Option PlanRefusal) (answer : Result PlanData PlanRefusal) (p : PlanData) → unless r answer ≡ Ok p → (r ≡ None) × (answer ≡ Ok p)
 unless_ok None answer p h = (refl, h)
 unless_ok (Some refusal) answer p h = absurd (cc)
 

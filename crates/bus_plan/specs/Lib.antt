@@ -13,3 +13,4 @@ pub mod FaultRules
 pub mod Limits
 pub mod Refusals
 pub mod PlanOf
+pub mod PlanRules
