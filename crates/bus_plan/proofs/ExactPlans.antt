@@ -9,14 +9,18 @@ use Rattle.bus_plan.specs.FaultRules.{undetectable, same_fault}
 use Rattle.bus_plan.specs.ItemRules.{same_address, start_missing, in_stations}
 use Rattle.bus_plan.specs.Limits.{too_many}
 use Rattle.bus_plan.specs.Place.{or_place}
-use Rattle.bus_plan.specs.PlanOf.{first_of, head_of, document_refusal, item_refusal, fault_refusal, unless, judged_plan, judged_document, judged, plan_of_bytes}
+use Rattle.bus_plan.specs.PlanOf.{first_of, head_of, in_document, document_refusal, item_refusal, fault_refusal, unless, judged_plan, judged_document, judged, plan_of_bytes}
 use Rattle.bus_plan.specs.PlanRules.{HasDetectableFlips, HasFewFrames, IsReadAs, AreReadAs}
 use Rattle.bus_plan.specs.declared.item_rules.ItemRule.TheVariants as rules
 use Rattle.bus_plan.specs.declared.refusal.PlanRefusal.{PlanRefusal}
+use Rattle.bus_plan.specs.Tables.{KeepsRule}
 use Rattle.bus_plan.specs.declared.rows.Head.{Head}
+use Rattle.bus_plan.specs.declared.rules.Rule.{Rule}
+use Rattle.bus_plan.specs.declared.rules.Rule.TheVariants.{UnknownKey, Missing, WrongKind, OutOfRange}
 use Rattle.bus_plan.proofs.AcceptedLaws.{plan, first_none, accepted_plan, unless_ok}
 use Rattle.bus_plan.proofs.ExactItems.{no_place, station-exact, own-exact, form-exact, abandon-exact, frames-exact}
 use Rattle.bus_plan.proofs.ExactStations.{apart-exact, start-exact}
+use Rattle.bus_plan.proofs.ExactTables.{rule-exact}
 use Rattle.bus_plan.proofs.ExactFaults.{flips-exact, faults-exact, limits-exact}
 
 -- findings that find nothing, one after the other
@@ -48,12 +52,35 @@ no_fault_refusal head doc p h flips few =
     (none_first _ (same_fault p.faults 0 p.faults) _ ((faults-exact p.faults).1 h.faults)
     (none_first _ (too_many head p) _ ((limits-exact head p).1 (h.limits, few)) refl))
 
+by_rule : (P : Rule → Type 0) → P UnknownKey → P Missing → P WrongKind → P OutOfRange → (rule : Rule) → P rule
+by_rule P u m w o UnknownKey = u
+by_rule P u m w o Missing = m
+by_rule P u m w o WrongKind = w
+by_rule P u m w o OutOfRange = o
+
+-- the rules on keys, kinds and ranges, one after the other
+no_document_refusal : (head : Head) (doc : Members) → ((rule : Rule) → KeepsRule rule head doc) → document_refusal head doc ≡ None
+no_document_refusal head doc h =
+    none_first _ (in_document UnknownKey head doc) _ ((rule-exact UnknownKey head doc).1 (h UnknownKey))
+    (none_first _ (in_document Missing head doc) _ ((rule-exact Missing head doc).1 (h Missing))
+    (none_first _ (in_document WrongKind head doc) _ ((rule-exact WrongKind head doc).1 (h WrongKind))
+    (none_first _ (in_document OutOfRange head doc) _ ((rule-exact OutOfRange head doc).1 (h OutOfRange)) refl)))
+
+-- each of the findings finds nothing where the first of them is none
+findings : (head : Head) (doc : Members) → document_refusal head doc ≡ None → (rule : Rule) → in_document rule head doc ≡ None
+findings head doc h =
+    let unknown = first_none _ (in_document UnknownKey head doc) _ h in
+    let absent = first_none _ (in_document Missing head doc) _ unknown.1 in
+    let kinds = first_none _ (in_document WrongKind head doc) _ absent.1 in
+    let ranges = first_none _ (in_document OutOfRange head doc) _ kinds.1 in
+    by_rule (λ rule. in_document rule head doc ≡ None) unknown.0 absent.0 kinds.0 ranges.0
+
 read_from : (doc : Members) (p : PlanData) → IsReadAs doc p → judged_document doc ≡ Ok p
 read_from doc p h =
     let same : plan doc ≡ p = sym h.described in
     let accepted : IsAccepted (plan doc) = subst IsAccepted h.described h.accepted in
     let few : HasFewFrames (head_of doc) (plan doc) = subst (HasFewFrames (head_of doc)) h.described h.frames in
-    ok_unless (document_refusal (head_of doc) doc) _ p h.keys
+    ok_unless (document_refusal (head_of doc) doc) _ p (no_document_refusal (head_of doc) doc h.keys)
     (ok_unless (item_refusal (plan doc)) _ p (no_item_refusal (plan doc) accepted)
     (ok_unless (fault_refusal (head_of doc) doc (plan doc)) _ p (no_fault_refusal (head_of doc) doc (plan doc) accepted h.flips few) (ap (λ q. Ok q) same)))
 
@@ -72,7 +99,7 @@ read_to doc p h =
     let equal = first_none _ (same_fault (plan doc).faults 0 (plan doc).faults) _ flips.1 in
     let amounts = first_none _ (too_many (head_of doc) (plan doc)) _ equal.1 in
     record {
-      keys = keys.0;
+      keys = λ rule. (rule-exact rule (head_of doc) doc).0 (findings (head_of doc) doc keys.0 rule);
       described = sym same;
       flips = (flips-exact doc).0 flips.0;
       accepted = subst IsAccepted same (accepted_plan doc items.0 faults.0);

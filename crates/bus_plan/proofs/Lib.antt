@@ -6,6 +6,7 @@ pub mod RangeLaws
 pub mod StationLaws
 pub mod ItemLaws
 pub mod ExactItems
+pub mod ExactTables
 pub mod ExactStations
 pub mod ExactFaults
 pub mod FaultLaws

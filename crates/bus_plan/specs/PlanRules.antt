@@ -1,6 +1,6 @@
 -- What the rules on a plan as a whole ask for, each as a statement on the plan alone: the fields of `IsAccepted`, taken apart by rule. That the
 -- search for each rule finds nothing exactly where its statement holds is proved (laws.rt).
-use Rattle.std.specs.Prelude.{◌≡◌, ◌≢◌, ℕ, ◌≤◌, true, List, codes, length, All, AllPairs, Contains, Some, None, IsSome}
+use Rattle.std.specs.Prelude.{◌≡◌, ◌≢◌, ℕ, ◌≤◌, true, List, codes, length, All, AllPairs, Contains, Some, IsSome}
 use Rattle.toml.specs.Data.{Members}
 use Rattle.bus_base.specs.Flips.{IsDetectable}
 use Rattle.bus_formats.specs.Accepted.{IsAccepted, addresses, addresses_named, HasSuperseding}
@@ -11,11 +11,13 @@ use Rattle.bus_plan.specs.Decode.{tables_at}
 use Rattle.bus_plan.specs.DecodeFaults.{plan_of, positions_at}
 use Rattle.bus_plan.specs.Document.{document_of}
 use Rattle.bus_plan.specs.Limits.{most_frames}
-use Rattle.bus_plan.specs.PlanOf.{head_of, document_refusal}
+use Rattle.bus_plan.specs.PlanOf.{head_of}
 use Rattle.bus_plan.specs.Positions.{may_stand}
 use Rattle.bus_plan.specs.Ranges.{flip_range}
 use Rattle.bus_plan.specs.Rows.{has_text}
+use Rattle.bus_plan.specs.Tables.{KeepsRule}
 use Rattle.bus_plan.specs.declared.rows.Head.{Head}
+use Rattle.bus_plan.specs.declared.rules.Rule.{Rule}
 
 -- each message of a plan, with the station that sends it
 abbrev pub EachMessage : (StationData → Kind → Type 0) → PlanData → Type 0
@@ -54,7 +56,7 @@ HasFewFrames head plan = All (λ s. length s.frames ≤ most_frames head) plan.s
 -- the document is read as this plan: it breaks no rule on keys, kinds and ranges, its flips can be detected, and the plan that it describes is
 -- accepted, with no more frames than its version allows
 pub record IsReadAs (doc : Members) (plan : PlanData) : Type 0 where
-  pub keys : document_refusal (head_of doc) doc ≡ None
+  pub keys : (rule : Rule) → KeepsRule rule (head_of doc) doc
   pub described : plan ≡ plan_of (head_of doc) doc
   pub flips : HasDetectableFlips doc
   pub accepted : IsAccepted plan

@@ -1,15 +1,33 @@
 //! Laws of reading plans, each a function with nothing to do.
 ghost use Rattle.std.specs.Prelude.{◌≡◌, ◌≢◌, ◌↔◌, ℕ, List, None, Ok, All, AllPairs, Contains};
 ghost use Rattle.toml.specs.Data.{Members};
-ghost use Rattle.bus_formats.specs.Accepted.{addresses, IsFrameSendable, StrikesTheSame, IsWithinLimits};
+ghost use Rattle.bus_formats.specs.Accepted.{HasStationRanges, HasFaultRanges, IsController, addresses, IsFrameSendable, StrikesTheSame, IsWithinLimits};
 ghost use Rattle.bus_formats.specs.Plans.{PlanData};
+ghost use Rattle.bus_plan.specs.DecodeFaults.{plan_of};
 ghost use Rattle.bus_plan.specs.FaultRules.{undetectable, same_fault};
 ghost use Rattle.bus_plan.specs.ItemRules.{same_address, start_missing, in_stations};
 ghost use Rattle.bus_plan.specs.Limits.{too_many};
-ghost use Rattle.bus_plan.specs.PlanOf.{plan_of_bytes};
+ghost use Rattle.bus_plan.specs.PlanOf.{head_of, in_document, plan_of_bytes};
 ghost use Rattle.bus_plan.specs.PlanRules.{NamesStations, NamesOthers, HasForms, IsSuperseding, HasDetectableFlips, HasFewFrames, AreReadAs};
+ghost use Rattle.bus_plan.specs.Tables.{KeepsRule};
 ghost use Rattle.bus_plan.specs.declared.item_rules.ItemRule.TheVariants.{NoSuchStation, SelfAddressed, BadForm, BadAbandon};
 ghost use Rattle.bus_plan.specs.declared.rows.Head.{Head};
+ghost use Rattle.bus_plan.specs.declared.rules.Rule.{Rule};
+
+/// A rule on keys, kinds and ranges is broken exactly where a table of the document breaks it: the walk's search finds nothing exactly where each
+/// member of each table keeps the rule.
+pub fn rules_on_documents_are_exact()
+    ensures { (rule : Rule) (head : Head) (doc : Members) → (in_document rule head doc ≡ None) ↔ KeepsRule rule head doc }
+{}
+
+/// The ranges of an accepted plan, and its rules on the address 31, hold of what every document describes: a value outside its range is refused
+/// for itself, and decoded as one within.
+pub fn what_a_document_describes_has_its_ranges()
+    ensures ranges { (doc : Members) → All HasStationRanges (plan_of (head_of doc) doc).stations }
+    ensures hits { (doc : Members) → All HasFaultRanges (plan_of (head_of doc) doc).faults }
+    ensures controllers { (doc : Members) → let p : PlanData = plan_of (head_of doc) doc in
+        All (λ s. s.terminal.address ≡ 31 → IsController p s.terminal) p.stations }
+{}
 
 /// The rules on stations are broken exactly where their fields of what an accepted plan keeps fail.
 pub fn rules_on_stations_are_exact()
