@@ -4,3 +4,5 @@ pub mod RoundTrip
 pub mod QuietLaws
 pub mod FrontLaws
 pub mod LineLaws
+pub mod OffsetTexts
+pub mod OffsetLaws

@@ -1,9 +1,10 @@
 //! Laws of captures, each a function with nothing to do.
-ghost use Rattle.std.specs.Prelude.{◌≡◌, ◌+◌, ◌*◌, ◌<◌, ◌≤◌, ℕ, List, ◌∷◌, ◌++◌, length, Ok, Err};
+ghost use Rattle.std.specs.Prelude.{◌≡◌, ◌↔◌, ◌+◌, ◌*◌, ◌<◌, ◌≤◌, ℕ, List, ◌∷◌, ◌++◌, length, reverse, Some, Ok, Err};
 ghost use Rattle.bus_base.specs.declared.samples.Pair.{Pair};
 ghost use Rattle.bus_capture.specs.declared.refusal.CaptureRefusal.{CaptureRefusal};
 ghost use Rattle.bus_capture.specs.declared.reader.Place.TheVariants.{Refused};
 ghost use Rattle.bus_capture.specs.Captures.{ticks_text, capture_text};
+ghost use Rattle.bus_capture.specs.Offsets.{IsGoodTo, refusal_at, capture_to};
 ghost use Rattle.bus_capture.specs.Readings.{
   text_limit,
   capture_ticks,
@@ -25,4 +26,13 @@ pub fn refusals_stay()
     ensures answer { (bytes : List ℕ) (refusal : CaptureRefusal) (byte : ℕ) → answer_now bytes ≡ Err refusal →
         answer_now (byte ∷ bytes) ≡ Err refusal }
     ensures end { (bytes : List ℕ) (refusal : CaptureRefusal) → answer_now bytes ≡ Err refusal → end_after bytes ≡ Err refusal }
+{}
+
+/// A text is refused at the least offset at which a byte stands that may not stand there, and for what that offset says. Each text is good
+/// as far as one offset, and its capture is what stands before it.
+pub fn the_first_byte_that_may_not_stand_is_refused()
+    ensures place { (text : List ℕ) (refusal : CaptureRefusal) → (answer_now (reverse text) ≡ Err refusal)
+        ↔ ((n : ℕ) × (n < length text) × IsGoodTo text n × (refusal_at text n ≡ Some refusal)) }
+    ensures one { (text : List ℕ) → (n : ℕ) × IsGoodTo text n }
+    ensures whole { (text : List ℕ) (n : ℕ) → IsGoodTo text n → capture_ticks text ≡ capture_to text n }
 {}

@@ -1,5 +1,5 @@
 -- Every plan that is read is accepted.
-use Rattle.std.proofs.Common.{◌≡◌, ◌≤◌, ℕ, Bool, true, false, cond, ◌==◌, List, ◌∷◌, get_or, Option, Some, None, Result, Ok, Err, IfOk, Contains, IsNone, arith, refl, ap, subst, eq-eqb, codes, pos, negsuc}
+use Rattle.std.proofs.Common.{◌≡◌, ◌≤◌, ℕ, Bool, true, false, cond, ◌==◌, List, ◌∷◌, get_or, Option, Some, None, Result, Ok, Err, IfOk, Contains, IsNone, All, arith, refl, ap, subst, eq-eqb, codes, pos, negsuc}
 use Rattle.std.specs.Prelude.{option_map, is_some}
 use Rattle.std.proofs.lemmas.Bool.{false≢true}
 use Rattle.std.proofs.lemmas.Bool.Decides.{nat_tests}
@@ -25,7 +25,7 @@ use Rattle.bus_plan.proofs.ItemLaws.{or_none_left, or_none_right, contains_addre
 use Rattle.bus_plan.proofs.FaultLaws.{faults_apart, limits_kept}
 
 -- a list of findings that finds nothing
-first_none : {T : Type 0} (make : T → PlanRefusal) (x : Option T) (more : List (Option PlanRefusal)) → first_of (option_map make x ∷ more) ≡ None
+pub first_none : {T : Type 0} (make : T → PlanRefusal) (x : Option T) (more : List (Option PlanRefusal)) → first_of (option_map make x ∷ more) ≡ None
     → (x ≡ None) × (first_of more ≡ None)
 first_none make None more h = (refl, h)
 first_none make (Some x) more h = absurd (cc)
@@ -71,11 +71,17 @@ controller p head ms h e =
     }
 
 module _ (doc : Members) where
-  abbrev plan : PlanData
+  abbrev pub plan : PlanData
   plan = plan_of (head_of doc) doc
 
+  -- only where the address 31 starts is it read as that of a station, which then has no subsystem
+  pub controllers_hold : All (λ s. s.terminal.address ≡ 31 → IsController plan s.terminal) plan.stations
+  controllers_hold =
+      all_at (λ s. s.terminal.address ≡ 31 → IsController plan s.terminal) (station_of (head_of doc))
+      (λ ms. controller plan (head_of doc) ms (last_start (get_member (codes "start") doc))) (codes "station") doc
+
   -- a document's plan in which no rule on stations, items, faults and amounts is broken
-  accepted_plan : item_refusal plan ≡ None → fault_refusal (head_of doc) doc plan ≡ None → IsAccepted plan
+  pub accepted_plan : item_refusal plan ≡ None → fault_refusal (head_of doc) doc plan ≡ None → IsAccepted plan
   accepted_plan i f =
       let same = first_none _ (same_address plan.stations 0 plan.stations) _ i in
       let where_to = first_none _ (or_place (start_missing plan) (in_stations rules.NoSuchStation plan.stations 1 plan.stations)) _ same.1 in
@@ -95,8 +101,7 @@ module _ (doc : Members) where
         hits = faults_ranged (head_of doc) doc;
         start = start_there plan (has_address plan.start plan.stations) refl there;
         apart = addresses_apart plan.stations same.0;
-        controllers = all_at (λ s. s.terminal.address ≡ 31 → IsController plan s.terminal) (station_of (head_of doc))
-            (λ ms. controller plan (head_of doc) ms (last_start (get_member (codes "start") doc))) (codes "station") doc;
+        controllers = controllers_hold;
         frames = λ k s below m frame below_frames. frame_sendable plan (get_or plan.stations k s) (get_or (get_or plan.stations k s).frames m frame)
             (to k s below m frame below_frames) (others k s below m frame below_frames) (forms k s below m frame below_frames)
             (abandons k s below m frame below_frames);
@@ -104,7 +109,7 @@ module _ (doc : Members) where
         limits = limits_kept (head_of doc) plan amounts.0;
       }
 
-unless_ok : (r : Option PlanRefusal) (answer : Result PlanData PlanRefusal) (p : PlanData) → unless r answer ≡ Ok p → (r ≡ None) × (answer ≡ Ok p)
+pub unless_ok : (r : Option PlanRefusal) (answer : Result PlanData PlanRefusal) (p : PlanData) → unless r answer ≡ Ok p → (r ≡ None) × (answer ≡ Ok p)
 unless_ok None answer p h = (refl, h)
 unless_ok (Some refusal) answer p h = absurd (cc)
 

@@ -28,7 +28,7 @@ word_self : (w : Option ℕ) → is_same_word w w ≡ true
 word_self None = refl
 word_self (Some w) = eq-eqb w w refl
 
-word_is : (h : Hit) → word_of h ≡ word_struck h
+pub word_is : (h : Hit) → word_of h ≡ word_struck h
 word_is (Flip word set) = refl
 word_is (Fade word set) = refl
 word_is (Cut after) = refl
@@ -73,15 +73,15 @@ faults_apart fs h i j d less within same =
     ∙ strikes (get_or fs i d) (get_or fs j d) same)
 
 -- sums of equal amounts are equal
-sum_same : {X : Type 0} (f g : X → ℕ) → ((x : X) → f x ≡ g x) → (a : ℕ) (xs : List X)
+pub sum_same : {X : Type 0} (f g : X → ℕ) → ((x : X) → f x ≡ g x) → (a : ℕ) (xs : List X)
     → fold (λ a x. a + f x) a xs ≡ fold (λ a x. a + g x) a xs
 sum_same f g h a [] = refl
 sum_same f g h a (x ∷ xs) = rw (h x) (sum_same f g h (a + g x) xs)
 
-once : (s : StationData) → times_in Items s * of_frames Items s.frames ≡ items_in s
+pub once : (s : StationData) → times_in Items s * of_frames Items s.frames ≡ items_in s
 once s = omega arith
 
-not_above : (most n : ℕ) → nat_lt most n ≡ false → n ≤ most
+pub not_above : (most n : ℕ) → nat_lt most n ≡ false → n ≤ most
 not_above most n h = grind (arith, nat_tests)
 
 most_known : (second : Bool) → cond second 1024 64 ≤ 1024

@@ -80,39 +80,39 @@ not_false true h = refl
 not_false false h = absurd (false≢true (sym h))
 
 -- an address that isn't absent is one of the plan's; one that isn't its own station's is another
-known : (plan : PlanData) (a : ℕ) → is_absent plan.stations a ≡ false → a ≢ 31 → Contains (addresses plan) a
+pub known : (plan : PlanData) (a : ℕ) → is_absent plan.stations a ≡ false → a ≢ 31 → Contains (addresses plan) a
 known plan a h other =
     elim (and_cases (not (a == 31)) (not (has_address a plan.stations)) h) [
       | inl last ↦ absurd (other (eqb-true a 31 (not_false (a == 31) last)))
       | inr there ↦ contains_address a plan.stations (not_false (has_address a plan.stations) there)
     ]
 
-not_own : (own : StationData) (a : ℕ) → is_own own a ≡ false → a ≢ 31 → a ≢ own.terminal.address
+pub not_own : (own : StationData) (a : ℕ) → is_own own a ≡ false → a ≢ 31 → a ≢ own.terminal.address
 not_own own a h other same =
     elim (and_cases (not (a == 31)) (a == own.terminal.address) h) [
       | inl last ↦ other (eqb-true a 31 (not_false (a == 31) last))
       | inr apart ↦ false≢true (sym apart ∙ eq-eqb a own.terminal.address same)
     ]
 
-one : (P : ℕ → Type 0) (a : ℕ) → P a → All P (a ∷ [])
+pub one : (P : ℕ → Type 0) (a : ℕ) → P a → All P (a ∷ [])
 one P a p = All-cons P a [] p (All-nil P)
 
-two : (P : ℕ → Type 0) (a b : ℕ) → P a → P b → All P (a ∷ b ∷ [])
+pub two : (P : ℕ → Type 0) (a b : ℕ) → P a → P b → All P (a ∷ b ∷ [])
 two P a b p q = All-cons P a (b ∷ []) p (one P b q)
 
 abbrev pub Apart : List ℕ → Type 0
 Apart xs = AllPairs {X = ℕ} (λ a b. a ≢ b) xs
 
-pairs_nil : Apart []
+pub pairs_nil : Apart []
 pairs_nil i j d less within = absurd (omega (arith, within))
 
-pairs_one : (a : ℕ) → Apart (a ∷ [])
+pub pairs_one : (a : ℕ) → Apart (a ∷ [])
 pairs_one a = AllPairs-cons (λ a b. a ≢ b) a [] (All-nil (λ b. a ≢ b)) pairs_nil
 
-pairs_two : (a b : ℕ) → a ≢ b → Apart (a ∷ b ∷ [])
+pub pairs_two : (a b : ℕ) → a ≢ b → Apart (a ∷ b ∷ [])
 pairs_two a b apart = AllPairs-cons (λ a b. a ≢ b) a (b ∷ []) (one (λ b. a ≢ b) b apart) (pairs_one b)
 
-some_form : {T : Type 0} (o : Option T) → is_none o ≡ false → IsSome o
+pub some_form : {T : Type 0} (o : Option T) → is_none o ≡ false → IsSome o
 some_form (Some x) h = refl
 some_form None h = absurd (false≢true (sym h))
 
@@ -176,7 +176,7 @@ abandons i rest h some =
       | inr may ↦ follows i rest (not_false (may_abandon i rest) may)
     ]
 
-superseding : (all : List StationData) (own : StationData) (items : List ItemData) → Keeps BadAbandon all own items → HasSuperseding items
+pub superseding : (all : List StationData) (own : StationData) (items : List ItemData) → Keeps BadAbandon all own items → HasSuperseding items
 superseding all own [] h = tt
 superseding all own (i ∷ rest) h = (abandons i rest h.0, superseding all own rest h.1)
 

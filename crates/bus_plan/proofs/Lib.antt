@@ -5,5 +5,10 @@ pub mod Flips
 pub mod RangeLaws
 pub mod StationLaws
 pub mod ItemLaws
+pub mod ExactItems
+pub mod ExactTables
+pub mod ExactStations
+pub mod ExactFaults
 pub mod FaultLaws
 pub mod AcceptedLaws
+pub mod ExactPlans

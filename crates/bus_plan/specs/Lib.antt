@@ -5,6 +5,7 @@ pub mod Place
 pub mod Positions
 pub mod Rules
 pub mod Walk
+pub mod Tables
 pub mod Decode
 pub mod DecodeItems
 pub mod DecodeFaults
@@ -13,3 +14,4 @@ pub mod FaultRules
 pub mod Limits
 pub mod Refusals
 pub mod PlanOf
+pub mod PlanRules

@@ -12,6 +12,7 @@ mod document;
 mod fault_rules;
 mod grammar;
 mod item_rules;
+pub mod laws;
 mod limits;
 mod place;
 mod positions;
