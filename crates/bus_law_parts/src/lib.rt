@@ -1,0 +1,8 @@
+//! Parts of messages as faults leave them on the wire: what a channel shows while one station sends a command or an answer that the faults of an
+//! accepted plan strike, what a reader of the channel makes of it, and what is left when it is over. Laws alone, each the contract of an empty
+//! function. Above them nothing has to be known of single hits.
+#![tactic(auto)]
+
+pub mod fitting;
+
+pub use fitting::the_hits_of_a_plan_fit;
