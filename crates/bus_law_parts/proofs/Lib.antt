@@ -1,1 +1,4 @@
 mod Fits
+mod Strikes
+mod Lengths
+mod PartSlots

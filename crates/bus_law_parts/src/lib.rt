@@ -4,5 +4,7 @@
 #![tactic(auto)]
 
 pub mod fitting;
+pub mod reading;
 
 pub use fitting::the_hits_of_a_plan_fit;
+pub use reading::a_part_is_read_as_it_is_struck;
