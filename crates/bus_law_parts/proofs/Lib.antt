@@ -2,3 +2,6 @@ mod Fits
 mod Strikes
 mod Lengths
 mod PartSlots
+mod Runs
+mod Quiets
+mod PartBursts

@@ -3,8 +3,10 @@
 //! function. Above them nothing has to be known of single hits.
 #![tactic(auto)]
 
+pub mod bursts;
 pub mod fitting;
 pub mod reading;
 
+pub use bursts::a_part_is_a_burst;
 pub use fitting::the_hits_of_a_plan_fit;
 pub use reading::a_part_is_read_as_it_is_struck;
