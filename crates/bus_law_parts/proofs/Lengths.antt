@@ -25,7 +25,7 @@ use Rattle.bus_law_parts.proofs.Strikes.{IsApartFrom, AreApart, AreRanged, AreKe
 -- ---- the hit that cuts a part, if one does
 
 -- none of these hits cuts the part
-record IsUncut (hits : List Hit) : Type 0 where
+pub record IsUncut (hits : List Hit) : Type 0 where
   slots : (slots : List (Option Word)) → cut_by hits slots ≡ slots
   over : (i : ℕ) → list_any (cut_over i) hits ≡ false
 
@@ -57,7 +57,7 @@ struck-quiet i [] = refl
 struck-quiet i (hit ∷ hits) = ap (struck_sample i hits) (hit-quiet i hit) ∙ struck-quiet i hits
 
 -- beside a hit that strikes the length no other does
-no-length : (hit : Hit) (hits : List Hit) → word_struck hit ≡ None → IsApartFrom hit hits → IsUncut hits × (added_by hits ≡ 0)
+pub no-length : (hit : Hit) (hits : List Hit) → word_struck hit ≡ None → IsApartFrom hit hits → IsUncut hits × (added_by hits ≡ 0)
 no-length hit [] none apart = (record { slots = λ slots. refl; over = λ i. refl }, refl)
 no-length hit (Flip word set ∷ hits) none apart =
     let rest = no-length hit hits none apart.1 in (record { slots = rest.0.slots; over = rest.0.over }, rest.1)

@@ -5,3 +5,6 @@ mod PartSlots
 mod Runs
 mod Quiets
 mod PartBursts
+mod Begins
+mod LookBacks
+mod SentParts
