@@ -26,7 +26,7 @@ count-same faults st tick before Silent ts other = refl
 count-same faults st tick before (On d sample part last) ts other =
     either-count (drives_on d before && not (is_cut_over faults tick (find (is_of st d) ts))) (new_transmission st d part tick ts) ts other
 
-not-both : (s st : ℕ) (b : Bool) → (st ≡ s → b ≡ false) → ((st == s) && b) ≡ false
+pub not-both : (s st : ℕ) (b : Bool) → (st ≡ s → b ≡ false) → ((st == s) && b) ≡ false
 not-both s st b h = elim (cases_eq st s) [
   | inl same ↦ and_right (st == s) b (h same)
   | inr apart ↦ and_left (st == s) b (ne_eqb st s apart)

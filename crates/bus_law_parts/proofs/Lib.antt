@@ -8,3 +8,5 @@ mod PartBursts
 mod Begins
 mod LookBacks
 mod SentParts
+mod Leavings
+mod Counting

@@ -65,7 +65,7 @@ others-spent faults s hits before (now ∷ sent) h other apart =
 -- ---- its transmission
 
 -- while its words are sent no cut has ended it
-uncut-at : (part : Part) (hits : List Hit) (words : List Word) (i : ℕ) → HitsFit part hits words → i < 40 * length words → i < part_ticks hits words + 4 →
+pub uncut-at : (part : Part) (hits : List Hit) (words : List Word) (i : ℕ) → HitsFit part hits words → i < 40 * length words → i < part_ticks hits words + 4 →
     list_any (cut_over i) hits ≡ false
 uncut-at part hits words i fits low within = elim (whole-or-short part hits words fits) [
   | inl whole ↦ whole.uncut i low

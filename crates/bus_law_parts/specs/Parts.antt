@@ -1,7 +1,7 @@
 -- Parts of messages as faults leave them on the wire (transmission continuity, MIL-STD-1553B 4.4.1.2; the faults are the project's own).
 -- A part is the words that one station sends as a command or as an answer. What was driven is a list of ticks, the newest first, with a drive
 -- for each station in the order of the plan; a station is named by its place there.
-use Rattle.std.specs.Prelude.{◌≡◌, ◌≢◌, ◌⊎◌, ℕ, ◌+◌, ◌*◌, ◌<◌, ◌≤◌, false, not, ◌&&◌, nat_lt, if◌then◌else◌, List, length, find}
+use Rattle.std.specs.Prelude.{◌≡◌, ◌≢◌, ◌⊎◌, ℕ, ◌+◌, ◌*◌, ◌<◌, ◌≤◌, false, not, ◌&&◌, nat_lt, if◌then◌else◌, List, [], ◌∷◌, length, find}
 use Rattle.std.specs.List.{All, AllPairs}
 use Rattle.bus_base.specs.Samples.{other_of}
 use Rattle.bus_base.specs.declared.samples.Channel.{Channel}
@@ -71,5 +71,16 @@ pub record SentPart (faults : List Fault) (s : Sender) (hits : List Hit) (before
 -- ---- which ticks begin an attempt
 
 -- a tick in which no station drives a command
-abbrev pub CommandsNothing : List Drive → Type 0
-CommandsNothing now = (station : ℕ) → drives_command (station_drive station now) ≡ false
+abbrev pub IsWithoutCommand : List Drive → Type 0
+IsWithoutCommand now = (station : ℕ) → drives_command (station_drive station now) ≡ false
+
+-- ticks in which none does
+abbrev pub AreWithoutCommand : List (List Drive) → Type 0
+AreWithoutCommand [] = Unit {0}
+AreWithoutCommand (now ∷ ticks) = IsWithoutCommand now × AreWithoutCommand ticks
+
+-- ticks in which no station but the sender drives a command; what else the others drive, and where, is as it may be
+abbrev pub CommandsAlone : Sender → List (List Drive) → Type 0
+CommandsAlone s [] = Unit {0}
+CommandsAlone s (now ∷ sent) =
+    ((other : ℕ) → other ≢ s.station → drives_command (station_drive other now) ≡ false) × CommandsAlone s sent

@@ -5,10 +5,12 @@
 
 pub mod bursts;
 pub mod fitting;
+pub mod leaving;
 pub mod reading;
 pub mod sending;
 
 pub use bursts::a_part_is_a_burst;
 pub use fitting::the_hits_of_a_plan_fit;
+pub use leaving::{a_sent_part_leaves_nothing, a_silent_station_is_fresh, commands_are_counted};
 pub use reading::a_part_is_read_as_it_is_struck;
 pub use sending::a_sender_shows_its_part;
