@@ -10,3 +10,4 @@ mod LookBacks
 mod SentParts
 mod Leavings
 mod Counting
+mod BrokenOff

@@ -28,7 +28,7 @@ quiet-tail row n (suc j) silent =
     let on : n + suc j ≡ suc (n + j) = omega arith in
     rw (on, silent (n + j) (omega arith), quiet-tail row n j silent) refl
 
-more-ticks : (a b m : ℕ) → a + b ≡ m → quiet_ticks a ++ quiet_ticks b ≡ quiet_ticks m
+pub more-ticks : (a b m : ℕ) → a + b ≡ m → quiet_ticks a ++ quiet_ticks b ≡ quiet_ticks m
 more-ticks zero b m e = let same : b ≡ m = omega (arith, e) in ap quiet_ticks same
 more-ticks (suc a) b zero e = absurd (omega (arith, e))
 more-ticks (suc a) b (suc m) e = ap (λ xs. Quiet ∷ xs) (more-ticks a b m (omega (arith, e)))

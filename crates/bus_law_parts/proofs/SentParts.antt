@@ -36,11 +36,12 @@ use Rattle.bus_law_parts.proofs.LookBacks.{sends-sample, sends-nothing, is-silen
 -- ---- fewer ticks of the same part
 
 fewer-beside : (s : Sender) (hits : List Hit) (sent : List (List Drive)) (now : List Drive) →
-    ((s.part ≡ Command) ⊎ ((added_by hits ≡ 0) ⊎ AreUndriven (other_of s.channel) (now ∷ sent))) →
-    (s.part ≡ Command) ⊎ ((added_by hits ≡ 0) ⊎ AreUndriven (other_of s.channel) sent)
-fewer-beside s hits sent now (inl command) = inl command
-fewer-beside s hits sent now (inr (inl none)) = inr (inl none)
-fewer-beside s hits sent now (inr (inr undriven)) = inr (inr undriven.1)
+    ((suc (length sent) ≤ 40 * length s.words) ⊎ ((s.part ≡ Command) ⊎ ((added_by hits ≡ 0) ⊎ AreUndriven (other_of s.channel) (now ∷ sent)))) →
+    (length sent ≤ 40 * length s.words) ⊎ ((s.part ≡ Command) ⊎ ((added_by hits ≡ 0) ⊎ AreUndriven (other_of s.channel) sent))
+fewer-beside s hits sent now (inl early) = inl (omega (arith, early))
+fewer-beside s hits sent now (inr (inl command)) = inr (inl command)
+fewer-beside s hits sent now (inr (inr (inl none))) = inr (inr (inl none))
+fewer-beside s hits sent now (inr (inr (inr undriven))) = inr (inr (inr undriven.1))
 
 pub fewer-ticks : (faults : List Fault) (s : Sender) (hits : List Hit) (before sent : List (List Drive)) (now : List Drive) →
     SentPart faults s hits before (now ∷ sent) → SentPart faults s hits before sent
@@ -183,13 +184,15 @@ beside-nothing false b h = refl
 
 -- nobody ends it from the other channel
 goes-on : (faults : List Fault) (s : Sender) (hits : List Hit) (before sent : List (List Drive)) → SentPart faults s hits before sent →
-    0 < added_by hits → ends_beside (own faults s before) (sent ++ before) ≡ false
-goes-on faults s hits before sent h some = by h.beside
+    0 < added_by hits → 40 * length s.words < length sent → ends_beside (own faults s before) (sent ++ before) ≡ false
+goes-on faults s hits before sent h some past = by h.beside
   where
-    by : (s.part ≡ Command) ⊎ ((added_by hits ≡ 0) ⊎ AreUndriven (other_of s.channel) sent) → ends_beside (own faults s before) (sent ++ before) ≡ false
-    by (inl command) = command-goes-on s.part (driven_since (other_of s.channel) (sent ++ before) (length before)) command
-    by (inr (inl none)) = absurd (omega (arith, none, some))
-    by (inr (inr undriven)) =
+    by : (length sent ≤ 40 * length s.words) ⊎ ((s.part ≡ Command) ⊎ ((added_by hits ≡ 0) ⊎ AreUndriven (other_of s.channel) sent)) →
+        ends_beside (own faults s before) (sent ++ before) ≡ false
+    by (inl early) = absurd (omega (arith, early, past))
+    by (inr (inl command)) = command-goes-on s.part (driven_since (other_of s.channel) (sent ++ before) (length before)) command
+    by (inr (inr (inl none))) = absurd (omega (arith, none, some))
+    by (inr (inr (inr undriven))) =
         beside-nothing (not (same_part s.part Command)) (driven_since (other_of s.channel) (sent ++ before) (length before))
         (driven-nothing (other_of s.channel) before sent undriven)
 
@@ -217,7 +220,7 @@ extra-some faults s hits before sent h more i late low within =
     (le-leb (length before + i) (last + 40 * added_by hits) (omega (arith, low, some)))
     (lt-ltb (length before + i) (length before + longest) (omega (arith, low, few)))
     (ap (drove_since s.station s.channel (sent ++ before)) next ∙ drove-nothing s before sent h.ticks)
-    (goes-on faults s hits before sent h more)
+    (goes-on faults s hits before sent h more (omega (arith, late, within)))
     ∙ ap (λ p. Some (get_or (spelling (data_word 0)) p Quiet)) inner
 
 over-by : (a b c : Bool) (d e : Bool) (x : Sample) → (a && b && c) ≡ false → (if a && b && c && not d && not e then Some x else None) ≡ None

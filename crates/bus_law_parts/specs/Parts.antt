@@ -14,7 +14,7 @@ use Rattle.bus_words.specs.declared.word.Word.{Word}
 use Rattle.bus_formats.specs.Accepted.{HasHitRanges, word_struck}
 use Rattle.bus_formats.specs.declared.fault.Fault.{Fault}
 use Rattle.bus_formats.specs.declared.fault.Hit.{Hit}
-use Rattle.bus_model.specs.Strikes.{hits_on, added_by, own_struck, struck}
+use Rattle.bus_model.specs.Strikes.{ShownAnswer, hits_on, added_by, own_struck, struck}
 use Rattle.bus_model.specs.Transmissions.{drives_on, station_drive, newest_drives, is_of, is_cut_over, transmissions}
 use Rattle.bus_model.specs.Wire.{zero_sample}
 use Rattle.bus_law_line.specs.Senders.{AreUndriven, IsSpent, Sender, SendAlone, attempt_to_come, drives_command}
@@ -65,8 +65,16 @@ pub record SentPart (faults : List Fault) (s : Sender) (hits : List Hit) (before
   -- the hits are those that the plan names for this part of this attempt, and fit
   pub named : hits_on faults (attempt_to_come faults s.part before) s.part ≡ hits
   pub fits : HitsFit s.part hits s.words
-  -- where an extra adds words to an answer, nobody drives the other channel, which would end them
-  pub beside : (s.part ≡ Command) ⊎ ((added_by hits ≡ 0) ⊎ AreUndriven (other_of s.channel) sent)
+  -- where an extra adds words to an answer, nobody drives the other channel, which would end them; while the own words are sent all may
+  pub beside : (length sent ≤ 40 * length s.words) ⊎ ((s.part ≡ Command) ⊎ ((added_by hits ≡ 0) ⊎ AreUndriven (other_of s.channel) sent))
+
+-- the first m ticks of an answer of which something is shown, after which it is quiet: the answer was given up (superseding valid commands 4.4.3.2)
+pub record StopsAfter (part : Part) (shown : ShownAnswer) (m : ℕ) : Type 0 where
+  -- its burst, were it to run to its own end, would have the struck words
+  pub slots : shown.burst.slots ≡ struck shown.hits shown.sent.words
+  pub fits : HitsFit part shown.hits shown.sent.words
+  pub some : 0 < m
+  pub within : m ≤ part_ticks shown.hits shown.sent.words
 
 -- ---- which ticks begin an attempt
 
