@@ -105,7 +105,7 @@ count-without faults before (now ∷ ticks) none = count-tick faults now (ticks 
 
 -- ---- the ticks of an answer
 
-no-command : (part : Part) → part ≢ Command → same_part part Command ≡ false
+pub no-command : (part : Part) → part ≢ Command → same_part part Command ≡ false
 no-command Command apart = absurd (apart refl)
 no-command First apart = refl
 no-command Second apart = refl

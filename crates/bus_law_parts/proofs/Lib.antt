@@ -11,3 +11,4 @@ mod SentParts
 mod Leavings
 mod Counting
 mod BrokenOff
+mod Stops

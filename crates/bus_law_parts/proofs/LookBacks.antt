@@ -63,7 +63,7 @@ unfolding last_since
 last-more s c now driven a early = let no : nat_lt (length driven) a ≡ false = le-ltb (length driven) a early in rw no refl
 
 -- none yet
-last-none : (s : Sender) (before sent : List (List Drive)) → SendAlone s sent → length sent < 40 * length s.words →
+pub last-none : (s : Sender) (before sent : List (List Drive)) → SendAlone s sent → length sent < 40 * length s.words →
     last_since s.station s.channel (sent ++ before) (length before) ≡ None
 last-none s before [] sends early = last-before s.station s.channel before (length before) (omega arith)
 last-none s before (now ∷ sent) sends early =
@@ -130,7 +130,7 @@ unfolding driven_since
 driven-before c [] a early = refl
 driven-before c (now ∷ driven) a early = let yes : nat_lt (length driven) a ≡ true = lt-ltb (length driven) a (omega (arith, early)) in rw yes refl
 
-driven-more : (c : Channel) (now : List Drive) (driven : List (List Drive)) (a : ℕ) → a ≤ length driven →
+pub driven-more : (c : Channel) (now : List Drive) (driven : List (List Drive)) (a : ℕ) → a ≤ length driven →
     driven_since c (now ∷ driven) a ≡ (list_any (drives_on c) now || driven_since c driven a)
 unfolding driven_since
 driven-more c now driven a early = let no : nat_lt (length driven) a ≡ false = le-ltb (length driven) a early in rw no refl

@@ -110,7 +110,7 @@ own-found faults s hits before (earlier ∷ sent) now h = elim (cases_lt (suc (l
 
 -- ---- what is shown of the others
 
-other-none : (faults : List Fault) (s : ℕ) (c : Channel) (now : List Drive) (driven : List (List Drive)) → IsSpent faults c driven s →
+pub other-none : (faults : List Fault) (s : ℕ) (c : Channel) (now : List Drive) (driven : List (List Drive)) → IsSpent faults c driven s →
     drives_on c (station_drive s now) ≡ false →
     shown_by faults (now ∷ driven) (length driven) c (find (is_of s c) (transmissions faults (now ∷ driven))) (station_drive s now) ≡ None
 other-none faults s c now driven none silent =
@@ -164,7 +164,7 @@ own-shown faults s hits before sent now h low =
 
 -- ---- what an extra adds
 
-extra-is : (t : Transmission) (driven : List (List Drive)) (tick : ℕ) (hits : List Hit) → AreApart hits → 0 < added_by hits →
+pub extra-is : (t : Transmission) (driven : List (List Drive)) (tick : ℕ) (hits : List Hit) → AreApart hits → 0 < added_by hits →
     added_sample t driven tick hits ≡ extra_after t driven tick (added_by hits) (last_since t.station t.channel driven t.first)
 extra-is t driven tick [] apart some = absurd (omega (arith, some))
 extra-is t driven tick (Flip word set ∷ hits) apart some = extra-is t driven tick hits apart.1 some
@@ -287,6 +287,10 @@ extra-shown faults s hits before sent now h late low = elim (whole-or-short s.pa
       (others-none faults s hits before sent now h))
 ]
 
+pub some-words : (n : ℕ) → n ≢ 0 → 0 < n
+some-words zero some = absurd (some refl)
+some-words (suc n) some = omega arith
+
 -- nothing is left of an extra from the end of the part on
 pub nothing-added : (faults : List Fault) (s : Sender) (hits : List Hit) (before sent : List (List Drive)) (tick : ℕ) → SentPart faults s hits before sent →
     part_ticks hits s.words ≤ length sent → length before + part_ticks hits s.words ≤ tick →
@@ -304,10 +308,6 @@ nothing-added faults s hits before sent tick h over late = elim (cases_eq (added
         (last-sent s before sent h.ticks words (omega (arith, over, ticks))) (omega (arith, late, ticks)))
   ]
 ]
-  where
-    some-words : (n : ℕ) → n ≢ 0 → 0 < n
-    some-words zero some = absurd (some refl)
-    some-words (suc n) some = omega arith
 
 nothing-shown : (faults : List Fault) (s : Sender) (hits : List Hit) (before sent : List (List Drive)) (now : List Drive) →
     SentPart faults s hits before (now ∷ sent) → 40 * length s.words ≤ length sent → part_ticks hits s.words ≤ length sent →
