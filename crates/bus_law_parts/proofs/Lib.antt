@@ -12,3 +12,5 @@ mod Leavings
 mod Counting
 mod BrokenOff
 mod Stops
+mod StruckSlots
+mod SentBursts

@@ -1,7 +1,7 @@
 -- Parts of messages as faults leave them on the wire (transmission continuity, MIL-STD-1553B 4.4.1.2; the faults are the project's own).
 -- A part is the words that one station sends as a command or as an answer. What was driven is a list of ticks, the newest first, with a drive
 -- for each station in the order of the plan; a station is named by its place there.
-use Rattle.std.specs.Prelude.{◌≡◌, ◌≢◌, ◌⊎◌, ℕ, ◌+◌, ◌*◌, ◌<◌, ◌≤◌, false, not, ◌&&◌, nat_lt, if◌then◌else◌, List, [], ◌∷◌, length, find}
+use Rattle.std.specs.Prelude.{◌≡◌, ◌≢◌, ◌⊎◌, ℕ, ◌+◌, ◌*◌, ◌<◌, ◌≤◌, false, not, ◌&&◌, nat_lt, if◌then◌else◌, List, [], ◌∷◌, length, slice_get, find, Option, Some, None}
 use Rattle.std.specs.List.{All, AllPairs}
 use Rattle.bus_base.specs.Samples.{other_of}
 use Rattle.bus_base.specs.declared.samples.Channel.{Channel}
@@ -12,6 +12,7 @@ use Rattle.bus_base.specs.declared.samples.Sample.{Sample}
 use Rattle.bus_base.specs.declared.samples.Sample.TheVariants.{Quiet}
 use Rattle.bus_words.specs.declared.word.Word.{Word}
 use Rattle.bus_formats.specs.Accepted.{HasHitRanges, word_struck}
+use Rattle.bus_formats.specs.Forms.{data_word}
 use Rattle.bus_formats.specs.declared.fault.Fault.{Fault}
 use Rattle.bus_formats.specs.declared.fault.Hit.{Hit}
 use Rattle.bus_model.specs.Strikes.{ShownAnswer, hits_on, added_by, own_struck, struck}
@@ -45,6 +46,11 @@ pub record HitsFit (part : Part) (hits : List Hit) (words : List Word) : Type 0 
   pub ranges : All (HasHitRanges part) hits
   -- no two of them strike the same word, nor both the length
   pub apart : AllPairs (λ a b. word_struck a ≢ word_struck b) hits
+
+-- what stands at place i of a part that hits strike: its word there, or none; past the words a data word of value 0, which an extra added
+abbrev pub IsStruckSlot : List Word → ℕ → Option Word → Type 0
+IsStruckSlot words i slot =
+    ((word : Word) × (slice_get words i ≡ Some word) × ((slot ≡ None) ⊎ (slot ≡ Some word))) ⊎ ((length words ≤ i) × (slot ≡ Some (data_word 0)))
 
 -- a drive of this station in the tick to come begins a transmission: it didn't drive the channel in the newest tick, or a cut has just ended what
 -- it sent there

@@ -14,5 +14,5 @@ pub use broken_off::{a_part_cut_short_is_a_burst, a_part_that_stops_leaves_nothi
 pub use bursts::a_part_is_a_burst;
 pub use fitting::the_hits_of_a_plan_fit;
 pub use leaving::{a_sent_part_leaves_nothing, a_silent_station_is_fresh, commands_are_counted};
-pub use reading::a_part_is_read_as_it_is_struck;
-pub use sending::a_sender_shows_its_part;
+pub use reading::{a_part_is_read_as_it_is_struck, a_slot_is_its_word_or_none_or_zero};
+pub use sending::{a_sender_shows_its_part, a_sent_part_is_the_burst_that_ends};
