@@ -12,10 +12,10 @@ use Rattle.bus_line.specs.Past.{InLeg, quiet_ticks, quiet, runs, ended_now, end_
 use Rattle.bus_line.proofs.EndLaws.{end_since-runs}
 use Rattle.bus_line.proofs.Legs.{quiet-quiet_ticks, length-quiet_ticks, runs-leg, first_tick-leg}
 use Rattle.bus_line.proofs.TickLaws.{quiet-sample}
-use Rattle.bus_model.specs.Strikes.{ShownAnswer, burst_ticks, faded_before, first_ticks, struck}
+use Rattle.bus_model.specs.Strikes.{ShownAnswer, burst_ticks, faded_before, first_ticks, is_faded, struck}
 use Rattle.bus_law_line.specs.Shown.{first_samples}
 use Rattle.bus_law_line.proofs.Rows.{length-first}
-use Rattle.bus_law_parts.specs.Parts.{StopsAfter, part_sample}
+use Rattle.bus_law_parts.specs.Parts.{HitsFit, StopsAfter, part_ticks, part_sample}
 use Rattle.bus_law_parts.proofs.PartSlots.{slots-read}
 use Rattle.bus_law_parts.proofs.PartBursts.{more-ticks, ended-row, end-row, rests-after, leg-part}
 use Rattle.bus_law_parts.proofs.Quiets.{is_own_faded, part-quiets, run-short, quiet-part}
@@ -56,6 +56,10 @@ faded-run : (shown : ShownAnswer) (m : ℕ) → faded_before shown m ≡ run_to 
 faded-run shown zero = refl
 faded-run shown (suc m) =
     ap (λ n. if is_own_faded shown.hits shown.sent.words m then suc n else 0) (faded-run shown m)
+
+pub quiet-faded : (part : Part) (shown : ShownAnswer) (i : ℕ) → HitsFit part shown.hits shown.sent.words → i < part_ticks shown.hits shown.sent.words →
+    is_quiet (part_sample shown.hits shown.sent.words i) ≡ is_faded shown i
+quiet-faded part shown i fits low = part-quiets part shown.hits shown.sent.words i fits low
 
 module _ (part : Part) (shown : ShownAnswer) (m : ℕ) (stops : StopsAfter part shown m) where
   abbrev row : ℕ → Sample

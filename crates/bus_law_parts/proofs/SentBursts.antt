@@ -2,14 +2,15 @@
 use Rattle.std.proofs.Common.{◌≡◌, ℕ, suc, ◌+◌, ◌<◌, ◌≤◌, false, List, [], ◌∷◌, ◌++◌, length, Some, None, refl, sym, ap, ◌∙◌, arith}
 use Rattle.bus_base.specs.declared.samples.Channel.{Channel}
 use Rattle.bus_base.specs.declared.samples.Drive.{Drive}
-use Rattle.bus_line.specs.Past.{runs, ended_now, end_since}
+use Rattle.bus_line.specs.Past.{quiet_ticks, runs, ended_now, end_since}
 use Rattle.bus_formats.specs.declared.fault.Fault.{Fault}
 use Rattle.bus_formats.specs.declared.fault.Hit.{Hit}
-use Rattle.bus_model.specs.Strikes.{struck}
+use Rattle.bus_model.specs.Strikes.{ShownAnswer, burst_ticks, faded_before, first_ticks, struck}
 use Rattle.bus_law_line.specs.Shown.{first_samples, shown_on}
 use Rattle.bus_law_line.specs.Senders.{Sender}
-use Rattle.bus_law_parts.specs.Parts.{SentPart, part_ticks, part_sample}
+use Rattle.bus_law_parts.specs.Parts.{SentPart, IsStopped, part_ticks, part_sample}
 use Rattle.bus_law_parts.proofs.PartBursts.{endless-part, ended-part, end-part, rests-part}
+use Rattle.bus_law_parts.proofs.BrokenOff.{endless-broken, ended-broken, end-broken, rests-broken}
 use Rattle.bus_law_parts.proofs.SentParts.{part-shown}
 
 length-shown : (faults : List Fault) (c : Channel) (driven : List (List Drive)) → length (shown_on faults c driven) ≡ length driven
@@ -53,3 +54,46 @@ module _ (k : ℕ) (faults : List Fault) (s : Sender) (hits : List Hit) (before 
   rests-sent all =
       ap (runs k) (shown-all all)
       ∙ rests-part k s.part hits s.words three h.fits (suc k) (shown_on faults s.channel before) (omega arith)
+
+-- ---- one that stops
+
+module _ (k : ℕ) (faults : List Fault) (s : Sender) (shown : ShownAnswer) (before sent silent : List (List Drive))
+    (h : IsStopped k faults s shown before sent silent) where
+  stopped-row : shown_on faults s.channel (silent ++ (sent ++ before))
+      ≡ quiet_ticks (length silent) ++ (first_samples (part_sample shown.hits shown.sent.words) (length sent) ++ shown_on faults s.channel before)
+  stopped-row =
+      h.quiet
+      ∙ ap (λ xs. quiet_ticks (length silent) ++ xs) (part-shown faults s shown.hits before sent h.sends)
+      ∙ ap (λ ws. quiet_ticks (length silent) ++ (first_samples (part_sample shown.hits ws) (length sent) ++ shown_on faults s.channel before)) h.words
+
+  pub endless-stopped : faded_before shown (length sent) + length silent ≤ k →
+      end_since k (shown_on faults s.channel (silent ++ (sent ++ before))) (length before) ≡ None
+  endless-stopped few =
+      ap (λ xs. end_since k xs (length before)) stopped-row
+      ∙ ap (end_since k (quiet_ticks (length silent)
+      ++ (first_samples (part_sample shown.hits shown.sent.words) (length sent) ++ shown_on faults s.channel before))) (sym (length-shown faults s.channel before))
+      ∙ endless-broken s.part shown (length sent) h.stops k (length silent) (shown_on faults s.channel before) h.lag few h.rests
+
+  pub ended-stopped : faded_before shown (length sent) + length silent ≡ suc k →
+      ended_now k (shown_on faults s.channel (silent ++ (sent ++ before)))
+      ≡ Some record { first = length before; ticks = burst_ticks (first_ticks shown (length sent)); slots = (first_ticks shown (length sent)).slots }
+  ended-stopped now =
+      ap (ended_now k) stopped-row
+      ∙ ended-broken s.part shown (length sent) h.stops k (length silent) (shown_on faults s.channel before) h.lag now h.rests
+      ∙ ap (λ p. Some (record { first = p; ticks = burst_ticks (first_ticks shown (length sent)); slots = (first_ticks shown (length sent)).slots }))
+      (length-shown faults s.channel before)
+
+  pub end-stopped : suc k ≤ faded_before shown (length sent) + length silent →
+      end_since k (shown_on faults s.channel (silent ++ (sent ++ before))) (length before)
+      ≡ Some (length before + burst_ticks (first_ticks shown (length sent)))
+  end-stopped enough =
+      ap (λ xs. end_since k xs (length before)) stopped-row
+      ∙ ap (end_since k (quiet_ticks (length silent)
+      ++ (first_samples (part_sample shown.hits shown.sent.words) (length sent) ++ shown_on faults s.channel before))) (sym (length-shown faults s.channel before))
+      ∙ end-broken s.part shown (length sent) h.stops k (length silent) (shown_on faults s.channel before) h.lag enough h.rests
+      ∙ ap (λ p. Some (p + burst_ticks (first_ticks shown (length sent)))) (length-shown faults s.channel before)
+
+  pub rests-stopped : suc k ≤ faded_before shown (length sent) + length silent → runs k (shown_on faults s.channel (silent ++ (sent ++ before))) ≡ false
+  rests-stopped enough =
+      ap (runs k) stopped-row
+      ∙ rests-broken s.part shown (length sent) h.stops k (length silent) (shown_on faults s.channel before) enough

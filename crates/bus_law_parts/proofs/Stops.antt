@@ -18,11 +18,15 @@ use Rattle.bus_law_line.specs.Shown.{shown_of, shown_on}
 use Rattle.bus_law_line.specs.Senders.{IsSpent, IsUndriven, Sender}
 use Rattle.bus_law_line.proofs.Samples.{shown-other, samples-none}
 use Rattle.bus_law_line.proofs.Spent.{added-nothing, find-same, spent-later}
-use Rattle.bus_law_parts.specs.Parts.{SentPart}
+use Rattle.bus_law_parts.specs.Parts.{HitsFit, SentPart, IsDriven, WasDriven}
 use Rattle.bus_law_parts.proofs.Strikes.{apart-all}
 use Rattle.bus_law_parts.proofs.Counting.{no-command}
 use Rattle.bus_law_parts.proofs.LookBacks.{last-none, driven-more}
 use Rattle.bus_law_parts.proofs.SentParts.{own, own-found, others-spent, other-none, extra-is, some-words}
+
+or-true : (b : Bool) → (b || true) ≡ true
+or-true true = refl
+or-true false = refl
 
 -- ---- words that weren't sent whole
 
@@ -44,27 +48,33 @@ spent-stopped faults s hits before sent now h early station = elim (cases_eq sta
       (no-extra faults s hits before (now ∷ sent) (length ((now ∷ sent) ++ before)) h early)
 ]
 
--- ---- an extra beside which another station drives the other channel
+-- ---- an extra of an answer beside which another station drives the other channel
 
 some-drive : (c : Channel) (now : List Drive) (other : ℕ) → drives_on c (station_drive other now) ≡ true → list_any (drives_on c) now ≡ true
 some-drive c [] other drives = absurd (grind (arith, drives))
 some-drive c (drive ∷ drives) zero own = rw own refl
-some-drive c (drive ∷ drives) (suc other) own = rw (some-drive c drives other own) (either (drives_on c drive))
-  where
-    either : (b : Bool) → (b || true) ≡ true
-    either true = refl
-    either false = refl
+some-drive c (drive ∷ drives) (suc other) own = rw (some-drive c drives other own) (or-true (drives_on c drive))
+
+was-driven : (c : Channel) (before ticks : List (List Drive)) → WasDriven c ticks → driven_since c (ticks ++ before) (length before) ≡ true
+was-driven c before [] was = elim was [ ]
+was-driven c before (now ∷ ticks) (inl here) =
+    let long : length (ticks ++ before) ≡ length ticks + length before = length-append ticks before in
+    driven-more c now (ticks ++ before) (length before) (omega (arith, long))
+    ∙ ap (λ b. b || driven_since c (ticks ++ before) (length before)) (some-drive c now here.0 here.1)
+was-driven c before (now ∷ ticks) (inr earlier) =
+    let long : length (ticks ++ before) ≡ length ticks + length before = length-append ticks before in
+    driven-more c now (ticks ++ before) (length before) (omega (arith, long))
+    ∙ ap (λ b. list_any (drives_on c) now || b) (was-driven c before ticks earlier)
+    ∙ or-true (list_any (drives_on c) now)
 
 both : (a b : Bool) → a ≡ false → b ≡ true → (not a && b) ≡ true
 both a b p q = rw (p, q) refl
 
-is-ended : (faults : List Fault) (s : Sender) (hits : List Hit) (before sent : List (List Drive)) (now : List Drive) (other : ℕ) → s.part ≢ Command →
-    drives_on (other_of s.channel) (station_drive other now) ≡ true → ends_beside (own faults s before) (now ∷ (sent ++ before)) ≡ true
-is-ended faults s hits before sent now other answer beside =
-    let long : length (sent ++ before) ≡ length sent + length before = length-append sent before in
-    both (same_part s.part Command) (driven_since (other_of s.channel) (now ∷ (sent ++ before)) (length before)) (no-command s.part answer)
-    (driven-more (other_of s.channel) now (sent ++ before) (length before) (omega (arith, long))
-    ∙ ap (λ b. b || driven_since (other_of s.channel) (sent ++ before) (length before)) (some-drive (other_of s.channel) now other beside))
+is-ended : (faults : List Fault) (s : Sender) (before ticks : List (List Drive)) → s.part ≢ Command → WasDriven (other_of s.channel) ticks →
+    ends_beside (own faults s before) (ticks ++ before) ≡ true
+is-ended faults s before ticks answer beside =
+    both (same_part s.part Command) (driven_since (other_of s.channel) (ticks ++ before) (length before)) (no-command s.part answer)
+    (was-driven (other_of s.channel) before ticks beside)
 
 ended-by : (a e : Bool) (x : Sample) → e ≡ true → (if a && not e then Some x else None) ≡ None
 ended-by a e x over = rw over (ap (λ (b : Bool). if b then Some x else None) (and_right a false refl))
@@ -76,19 +86,29 @@ ended-extra t driven tick words (Some last) over =
     ended-by (nat_lt last tick && nat_le tick (last + 40 * words) && nat_lt tick (t.first + longest)
     && not (drove_since t.station t.channel driven (suc last))) (ends_beside t driven) (zero_sample (tick - suc last)) over
 
-module _ (faults : List Fault) (s : Sender) (hits : List Hit) (before sent : List (List Drive)) (last now : List Drive) (other : ℕ)
-    (h : SentPart faults s hits before (last ∷ sent)) (answer : s.part ≢ Command) (left : IsUndriven s.channel now)
-    (beside : drives_on (other_of s.channel) (station_drive other now) ≡ true) where
-  none-added : (tick : ℕ) → added_sample (own faults s before) (now ∷ ((last ∷ sent) ++ before)) tick hits ≡ None
-  none-added tick = elim (cases_eq (added_by hits) 0) [
-    | inl none ↦ added-nothing (own faults s before) (now ∷ ((last ∷ sent) ++ before)) tick hits none
-    | inr some ↦ (
-        extra-is (own faults s before) (now ∷ ((last ∷ sent) ++ before)) tick hits (apart-all hits h.fits.apart) (some-words (added_by hits) some)
-        ∙ ended-extra (own faults s before) (now ∷ ((last ∷ sent) ++ before)) tick (added_by hits)
-        (last_since s.station s.channel (now ∷ ((last ∷ sent) ++ before)) (length before))
-        (is-ended faults s hits before (last ∷ sent) now other answer beside))
-  ]
+none-added : (faults : List Fault) (s : Sender) (hits : List Hit) (before ticks : List (List Drive)) (tick : ℕ) → HitsFit s.part hits s.words →
+    s.part ≢ Command → WasDriven (other_of s.channel) ticks → added_sample (own faults s before) (ticks ++ before) tick hits ≡ None
+none-added faults s hits before ticks tick fits answer beside = elim (cases_eq (added_by hits) 0) [
+  | inl none ↦ added-nothing (own faults s before) (ticks ++ before) tick hits none
+  | inr some ↦ (
+      extra-is (own faults s before) (ticks ++ before) tick hits (apart-all hits fits.apart) (some-words (added_by hits) some)
+      ∙ ended-extra (own faults s before) (ticks ++ before) tick (added_by hits) (last_since s.station s.channel (ticks ++ before) (length before))
+      (is-ended faults s before ticks answer beside))
+]
 
+-- nothing is left of it after such a tick
+pub spent-beside : (faults : List Fault) (s : Sender) (hits : List Hit) (before sent : List (List Drive)) (now : List Drive) →
+    SentPart faults s hits before (now ∷ sent) → s.part ≢ Command → WasDriven (other_of s.channel) (now ∷ sent) →
+    (station : ℕ) → IsSpent faults s.channel ((now ∷ sent) ++ before) station
+spent-beside faults s hits before sent now h answer beside station = elim (cases_eq station s.station) [
+  | inr apart ↦ others-spent faults s hits before (now ∷ sent) h station apart
+  | inl same ↦ rw (same, own-found faults s hits before sent now h, h.named)
+      (none-added faults s hits before (now ∷ sent) (length ((now ∷ sent) ++ before)) h.fits answer beside)
+]
+
+module _ (faults : List Fault) (s : Sender) (hits : List Hit) (before sent : List (List Drive)) (last now : List Drive)
+    (h : SentPart faults s hits before (last ∷ sent)) (answer : s.part ≢ Command) (left : IsUndriven s.channel now)
+    (beside : IsDriven (other_of s.channel) now) where
   found-still : find (is_of s.station s.channel) (transmissions faults (now ∷ ((last ∷ sent) ++ before))) ≡ Some (own faults s before)
   found-still = find-same faults s.station s.channel now ((last ∷ sent) ++ before) (left s.station) ∙ own-found faults s hits before sent last h
 
@@ -99,7 +119,7 @@ module _ (faults : List Fault) (s : Sender) (hits : List Hit) (before sent : Lis
       (find (is_of s.station s.channel) (transmissions faults (now ∷ ((last ∷ sent) ++ before)))) (station_drive s.station now) (left s.station)
       ∙ ap (shown_silent faults (now ∷ ((last ∷ sent) ++ before)) (length ((last ∷ sent) ++ before))) found-still
       ∙ ap (added_sample (own faults s before) (now ∷ ((last ∷ sent) ++ before)) (length ((last ∷ sent) ++ before))) h.named
-      ∙ none-added (length ((last ∷ sent) ++ before))
+      ∙ none-added faults s hits before (now ∷ (last ∷ sent)) (length ((last ∷ sent) ++ before)) h.fits answer (inl beside)
 
   none-shown : samples_on faults s.channel (now ∷ ((last ∷ sent) ++ before)) ≡ []
   unfolding samples_on
@@ -123,5 +143,6 @@ module _ (faults : List Fault) (s : Sender) (hits : List Hit) (before sent : Lis
   spent-ended station = elim (cases_eq station s.station) [
     | inr apart ↦ spent-later faults station s.channel now ((last ∷ sent) ++ before)
         (others-spent faults s hits before (last ∷ sent) h station apart) (left station)
-    | inl same ↦ rw (same, found-still, h.named) (none-added (length (now ∷ ((last ∷ sent) ++ before))))
+    | inl same ↦ rw (same, found-still, h.named)
+        (none-added faults s hits before (now ∷ (last ∷ sent)) (length (now ∷ ((last ∷ sent) ++ before))) h.fits answer (inl beside))
   ]

@@ -1,7 +1,7 @@
 -- Parts of messages as faults leave them on the wire (transmission continuity, MIL-STD-1553B 4.4.1.2; the faults are the project's own).
 -- A part is the words that one station sends as a command or as an answer. What was driven is a list of ticks, the newest first, with a drive
 -- for each station in the order of the plan; a station is named by its place there.
-use Rattle.std.specs.Prelude.{◌≡◌, ◌≢◌, ◌⊎◌, ℕ, ◌+◌, ◌*◌, ◌<◌, ◌≤◌, false, not, ◌&&◌, nat_lt, if◌then◌else◌, List, [], ◌∷◌, length, slice_get, find, Option, Some, None}
+use Rattle.std.specs.Prelude.{◌≡◌, ◌≢◌, ◌⊎◌, ℕ, ◌+◌, ◌*◌, ◌<◌, ◌≤◌, true, false, not, ◌&&◌, nat_lt, if◌then◌else◌, List, [], ◌∷◌, ◌++◌, length, slice_get, find, Option, Some, None}
 use Rattle.std.specs.List.{All, AllPairs}
 use Rattle.bus_base.specs.Samples.{other_of}
 use Rattle.bus_base.specs.declared.samples.Channel.{Channel}
@@ -11,6 +11,7 @@ use Rattle.bus_base.specs.declared.samples.Part.TheVariants.{Command}
 use Rattle.bus_base.specs.declared.samples.Sample.{Sample}
 use Rattle.bus_base.specs.declared.samples.Sample.TheVariants.{Quiet}
 use Rattle.bus_words.specs.declared.word.Word.{Word}
+use Rattle.bus_line.specs.Past.{quiet_ticks, runs}
 use Rattle.bus_formats.specs.Accepted.{HasHitRanges, word_struck}
 use Rattle.bus_formats.specs.Forms.{data_word}
 use Rattle.bus_formats.specs.declared.fault.Fault.{Fault}
@@ -19,7 +20,7 @@ use Rattle.bus_model.specs.Strikes.{ShownAnswer, hits_on, added_by, own_struck, 
 use Rattle.bus_model.specs.Transmissions.{drives_on, station_drive, newest_drives, is_of, is_cut_over, transmissions}
 use Rattle.bus_model.specs.Wire.{zero_sample}
 use Rattle.bus_law_line.specs.Senders.{AreUndriven, IsSpent, Sender, SendAlone, attempt_to_come, drives_command}
-use Rattle.bus_law_line.specs.Shown.{struck_of}
+use Rattle.bus_law_line.specs.Shown.{struck_of, shown_on}
 
 -- ---- what is shown of a part
 
@@ -74,6 +75,15 @@ pub record SentPart (faults : List Fault) (s : Sender) (hits : List Hit) (before
   -- where an extra adds words to an answer, nobody drives the other channel, which would end them; while the own words are sent all may
   pub beside : (length sent ≤ 40 * length s.words) ⊎ ((s.part ≡ Command) ⊎ ((added_by hits ≡ 0) ⊎ AreUndriven (other_of s.channel) sent))
 
+-- some station drives the channel in a tick
+abbrev pub IsDriven : Channel → List Drive → Type 0
+IsDriven c now = (station : ℕ) × (drives_on c (station_drive station now) ≡ true)
+
+-- some station drives it in one of these ticks
+abbrev pub WasDriven : Channel → List (List Drive) → Type 0
+WasDriven c [] = ⊥
+WasDriven c (now ∷ ticks) = IsDriven c now ⊎ WasDriven c ticks
+
 -- the first m ticks of an answer of which something is shown, after which it is quiet: the answer was given up (superseding valid commands 4.4.3.2)
 pub record StopsAfter (part : Part) (shown : ShownAnswer) (m : ℕ) : Type 0 where
   -- its burst, were it to run to its own end, would have the struck words
@@ -81,6 +91,17 @@ pub record StopsAfter (part : Part) (shown : ShownAnswer) (m : ℕ) : Type 0 whe
   pub fits : HitsFit part shown.hits shown.sent.words
   pub some : 0 < m
   pub within : m ≤ part_ticks shown.hits shown.sent.words
+
+-- a station sends the first ticks of an answer, on a channel on which no burst ran, and then the channel is quiet: the answer as the table has it
+pub record IsStopped (k : ℕ) (faults : List Fault) (s : Sender) (shown : ShownAnswer) (before sent silent : List (List Drive)) : Type 0 where
+  pub lag : k ≡ 3
+  pub rests : runs k (shown_on faults s.channel before) ≡ false
+  -- these ticks are sent, as the answer's own
+  pub words : s.words ≡ shown.sent.words
+  pub sends : SentPart faults s shown.hits before sent
+  pub stops : StopsAfter s.part shown (length sent)
+  -- and nothing is shown in those after them
+  pub quiet : shown_on faults s.channel (silent ++ (sent ++ before)) ≡ quiet_ticks (length silent) ++ shown_on faults s.channel (sent ++ before)
 
 -- ---- which ticks begin an attempt
 

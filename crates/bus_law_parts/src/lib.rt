@@ -10,7 +10,10 @@ pub mod leaving;
 pub mod reading;
 pub mod sending;
 
-pub use broken_off::{a_part_cut_short_is_a_burst, a_part_that_stops_leaves_nothing};
+pub use broken_off::{
+    a_part_cut_short_is_a_burst, a_part_that_stops_leaves_nothing,
+    a_sent_part_that_stops_is_the_burst_that_ends, a_shown_sample_is_quiet_where_it_is_faded,
+};
 pub use bursts::a_part_is_a_burst;
 pub use fitting::the_hits_of_a_plan_fit;
 pub use leaving::{a_sent_part_leaves_nothing, a_silent_station_is_fresh, commands_are_counted};
