@@ -1,16 +1,16 @@
-mod Fits
-mod Strikes
-mod Lengths
-mod PartSlots
-mod Runs
-mod Quiets
-mod PartBursts
-mod Begins
-mod LookBacks
-mod SentParts
-mod Leavings
-mod Counting
-mod BrokenOff
-mod Stops
-mod StruckSlots
-mod SentBursts
+pub mod Fits
+pub mod Strikes
+pub mod Lengths
+pub mod PartSlots
+pub mod Runs
+pub mod Quiets
+pub mod PartBursts
+pub mod Begins
+pub mod LookBacks
+pub mod SentParts
+pub mod Leavings
+pub mod Counting
+pub mod BrokenOff
+pub mod Stops
+pub mod StruckSlots
+pub mod SentBursts

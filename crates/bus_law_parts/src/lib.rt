@@ -1,6 +1,9 @@
 //! Parts of messages as faults leave them on the wire: what a channel shows while one station sends a command or an answer that the faults of an
 //! accepted plan strike, what a reader of the channel makes of it, and what is left when it is over. Laws alone, each the contract of an empty
-//! function. Above them nothing has to be known of single hits.
+//! function, at the lag of 3 where it matters. Above them nothing has to be known of single hits.
+//! Proved: the hits that an accepted plan has on one part fit it; the slots of a part are the entries of the message table; a part is one burst; the
+//! channel shows a part that is sent alone, one driver at most in each tick, and afterwards no extra is left and every station is fresh; commands are
+//! counted by the parts that are commands; and a part that its station stops sending is the burst that the message table has for its first ticks.
 #![tactic(auto)]
 
 pub mod broken_off;
