@@ -1,0 +1,16 @@
+pub mod Fits
+pub mod Strikes
+pub mod Lengths
+pub mod PartSlots
+pub mod Runs
+pub mod Quiets
+pub mod PartBursts
+pub mod Begins
+pub mod LookBacks
+pub mod SentParts
+pub mod Leavings
+pub mod Counting
+pub mod BrokenOff
+pub mod Stops
+pub mod StruckSlots
+pub mod SentBursts
