@@ -62,6 +62,9 @@ no-code bits code plain = ap (λ b. b && (field_of bits == code)) plain
 pub not-all : (bits address : ℕ) → address_of bits ≡ address → address ≢ 31 → is_broadcast bits ≡ false
 not-all bits address at apart = grind (arith, nat_tests, at, apart)
 
+pub to-all : (bits address : ℕ) → address_of bits ≡ address → address ≡ 31 → is_broadcast bits ≡ true
+to-all bits address at all = grind (arith, nat_tests, at, all)
+
 -- a command that is for a terminal, and not for all, names it
 pub own-one : (own bits : ℕ) → is_for own bits ≡ true → is_broadcast bits ≡ false → address_of bits ≡ own
 own-one own bits is one = grind (arith, nat_tests, is, one)

@@ -10,3 +10,5 @@ pub mod Status
 pub mod Owes
 pub mod RelayOwes
 pub mod OneOwes
+pub mod Kept
+pub mod Settled

@@ -71,12 +71,12 @@ module _ (station other : Present) (c : Channel) (memory memories : Memory) (slo
   kind-same (Mode to mode_sub transmit code word) ranges left =
       one-same (Mode to mode_sub transmit code word) (one-command (Mode to mode_sub transmit code word) ranges refl) left
 
-owed-is : (duty : Duty) → is_owed duty ≡ true → (words : List Word) × (acceptance : Bool) × (duty ≡ owes words acceptance)
+pub owed-is : (duty : Duty) → is_owed duty ≡ true → (words : List Word) × (acceptance : Bool) × (duty ≡ owes words acceptance)
 owed-is free is = absurd (true≢false (sym is))
 owed-is (owes words acceptance) is = (words, acceptance, refl)
 owed-is (promises command transmitter) is = absurd (true≢false (sym is))
 
-not-owed : (b : Bool) → (b ≡ true → ⊥) → b ≡ false
+pub not-owed : (b : Bool) → (b ≡ true → ⊥) → b ≡ false
 not-owed true none = absurd (none refl)
 not-owed false none = refl
 
@@ -93,7 +93,7 @@ pairs-map R S f back xs each pairs i j d before inside =
 
 -- ---- messages without an answer
 
-no-answer : (address count : ℕ) → answer_of address count ≡ None → address ≡ 31
+pub no-answer : (address count : ℕ) → answer_of address count ≡ None → address ≡ 31
 no-answer address count none = elim (cases_eq address 31) [
   | inl same ↦ same
   | inr apart ↦ (let test : (address == 31) ≡ false = grind (arith, nat_tests, apart) in

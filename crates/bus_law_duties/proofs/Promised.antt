@@ -24,7 +24,7 @@ use Rattle.bus_law_duties.proofs.Owed.{tail-promised}
 use Rattle.bus_law_duties.proofs.Relayed.{data-promised, Relayed, second-promised, relay-other, first, second, from-is, to-is}
 use Rattle.bus_law_duties.proofs.Struck.{struck-left}
 
-free-promises : (command transmitter : ℕ) → free ≡ promises command transmitter → ⊥
+pub free-promises : (command transmitter : ℕ) → free ≡ promises command transmitter → ⊥
 free-promises command transmitter is = cc
 
 -- an order whose words after it are a relay's
