@@ -12,3 +12,4 @@ pub mod RelayOwes
 pub mod OneOwes
 pub mod Kept
 pub mod Settled
+pub mod Offered
