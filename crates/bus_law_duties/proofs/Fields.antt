@@ -16,14 +16,17 @@ use Rattle.bus_law_duties.specs.Words.{with_data}
 
 -- ---- choices
 
+-- the branch that is taken
 pub skips : {X : Type 0} (b : Bool) (x y : X) → b ≡ false → (if b then x else y) ≡ y
 skips b x y off = ap (λ (t : Bool). if t then x else y) off
 
+-- the other one
 pub takes : {X : Type 0} (b : Bool) (x y : X) → b ≡ true → (if b then x else y) ≡ x
 takes b x y on = ap (λ (t : Bool). if t then x else y) on
 
 -- ---- the fields of a command word
 
+-- its address, subaddress or mode field, last field and transmit bit are read as they were written
 pub address-is : (address sub field : ℕ) (transmit : Bool) → sub ≤ 31 → field ≤ 31 → address_of (command_bits address transmit sub field) ≡ address
 address-is address sub field true low few = omega (arith, low, few)
 address-is address sub field false low few = omega (arith, low, few)
@@ -42,6 +45,7 @@ transmit-is address sub field true low few =
 transmit-is address sub field false low few =
     let none : (address * 2048 + 0 + sub * 32 + field) / 1024 % 2 ≡ 0 = omega (arith, low, few) in ap (λ n. n == 1) none
 
+-- a mode field is one of five bits
 mode-sub : (sub : ℕ) → (sub ≡ 0) ⊎ (sub ≡ 31) → sub ≤ 31
 mode-sub sub (inl none) = omega (arith, none)
 mode-sub sub (inr all) = omega (arith, all)
@@ -50,18 +54,22 @@ mode-sub sub (inr all) = omega (arith, all)
 pub plain-mode : (bits sub : ℕ) → sub_of bits ≡ sub → 1 ≤ sub → sub ≤ 30 → is_mode bits ≡ false
 plain-mode bits sub is some low = grind (arith, nat_tests, is, some, low)
 
+-- a subaddress 0 or 31 is that of a mode command
 mode-is : (bits sub : ℕ) → sub_of bits ≡ sub → (sub ≡ 0) ⊎ (sub ≡ 31) → is_mode bits ≡ true
 mode-is bits sub is (inl none) = grind (arith, nat_tests, is, none)
 mode-is bits sub is (inr all) = grind (arith, nat_tests, is, all)
 
+-- a command that is no mode command has no mode code
 pub no-code : (bits code : ℕ) → is_mode bits ≡ false → has_code bits code ≡ false
 no-code bits code plain = ap (λ b. b && (field_of bits == code)) plain
 
 -- ---- for whom it is
 
+-- a command to another address than 31 isn't broadcast
 pub not-all : (bits address : ℕ) → address_of bits ≡ address → address ≢ 31 → is_broadcast bits ≡ false
 not-all bits address at apart = grind (arith, nat_tests, at, apart)
 
+-- and one to 31 is
 pub to-all : (bits address : ℕ) → address_of bits ≡ address → address ≡ 31 → is_broadcast bits ≡ true
 to-all bits address at all = grind (arith, nat_tests, at, all)
 
@@ -69,6 +77,7 @@ to-all bits address at all = grind (arith, nat_tests, at, all)
 pub own-one : (own bits : ℕ) → is_for own bits ≡ true → is_broadcast bits ≡ false → address_of bits ≡ own
 own-one own bits is one = grind (arith, nat_tests, is, one)
 
+-- a command that is for a terminal names it, or all
 pub own-or-all : (own bits : ℕ) → is_for own bits ≡ true → (address_of bits ≡ own) ⊎ (address_of bits ≡ 31)
 own-or-all own bits is = elim (cases_eq (address_of bits) 31) [
   | inl all ↦ inr all
@@ -91,10 +100,12 @@ for-own own bits terminal (inr all) = grind (arith, nat_tests, terminal, all)
 
 -- ---- the command of a message to one address
 
+-- whether a message is a relay, which has two commands
 abbrev pub is_relay_kind : Kind → Bool
 is_relay_kind (Relay from from_sub to to_sub count) = true
 is_relay_kind _ = false
 
+-- the command of a message that is no relay, with its data words and its address
 pub record OneCommand (kind : Kind) : Type 0 where
   pub bits : ℕ
   pub data_words : List ℕ
@@ -104,6 +115,7 @@ pub record OneCommand (kind : Kind) : Type 0 where
   pub at : address_of bits ≡ address
   pub offer : has_code bits dynamic_bus_control ≡ is_offer kind
 
+-- each such message has one
 pub one-command : (kind : Kind) → HasKindRanges kind → is_relay_kind kind ≡ false → OneCommand kind
 one-command (Receive to sub words) ranges one =
     let n : ℕ = length words in

@@ -38,6 +38,7 @@ data-left bits slot (inl whole) = ap command_in whole
 data-left bits slot (inr (inl none)) = ap command_in none
 data-left bits slot (inr (inr added)) = ap command_in added
 
+-- data words are a command for nobody
 pub data-unaddressed : (own : ℕ) (data_words : List ℕ) (slots : List (Option Word)) → AreLeftOf (map data_word data_words) slots →
     last_order own slots ≡ None
 data-unaddressed own data_words [] left = refl
@@ -54,11 +55,13 @@ pub record AtFirst (own bits : ℕ) (slots : List (Option Word)) (order : Order)
   pub shown : slots ≡ Some (command_word bits) ∷ order.tail
   pub last : last_order own order.tail ≡ None
 
+-- an order is found where the command is for the terminal
 with-test : (b : Bool) (bits : ℕ) (tail : List (Option Word)) (order : Order) → order_with (if b then Some bits else None) tail ≡ Some order →
     (b ≡ true) × (order ≡ record { command = bits; tail = tail })
 with-test true bits tail order found = (refl, sym (same_Some _ _ found))
 with-test false bits tail order found = absurd (none-some order found)
 
+-- where no later slot has one, the order is that of the first slot
 pub first-found : (own bits : ℕ) (slot : Option Word) (slots : List (Option Word)) (order : Order) → IsLeftOf (command_word bits) slot →
     last_order own slots ≡ None → last_order own (slot ∷ slots) ≡ Some order → AtFirst own bits (slot ∷ slots) order
 first-found own bits slot slots order (inl whole) later found =
@@ -74,7 +77,8 @@ first-found own bits slot slots order (inr (inl none)) later found =
 first-found own bits slot slots order (inr (inr added)) later found =
     absurd (none-some order (sym (no-command own slot slots (ap command_in added) later) ∙ found))
 
-same-tail : (a b : Option Word) (xs ys : List (Option Word)) → a ∷ xs ≡ b ∷ ys → xs ≡ ys
+-- equal lists have equal rests
+pub same-tail : (a b : Option Word) (xs ys : List (Option Word)) → a ∷ xs ≡ b ∷ ys → xs ≡ ys
 same-tail a b xs ys same = cc
 
 -- in a command with its data words
@@ -109,6 +113,7 @@ second-found own first second slot slots order later left inner found =
       subst (λ (o : Order). AreLeftOf [] o.tail) same at.1,
     )
 
+-- the order of a relay, by what is found after the first slot
 relay-by : (own first second : ℕ) (slot : Option Word) (slots : List (Option Word)) (order : Order) → IsLeftOf (command_word first) slot →
     AreLeftOf (with_data second []) slots → last_order own (slot ∷ slots) ≡ Some order →
     (last_order own slots ≡ None) ⊎ ((later : Order) × (last_order own slots ≡ Some later)) →
@@ -119,6 +124,7 @@ relay-by own first second slot slots order one left found (inl none) =
 relay-by own first second slot slots order one left found (inr later) =
     inr (second-found own first second slot slots order later.0 left later.1 found)
 
+-- it is that of the first command or of the second
 pub relay-found : (own first second : ℕ) (slots : List (Option Word)) (order : Order) → AreLeftOf (command_word first ∷ with_data second []) slots →
     last_order own slots ≡ Some order →
     (AtFirst own first slots order × AreLeftOf (with_data second []) order.tail) ⊎ (AtSecond own second slots order × AreLeftOf [] order.tail)
@@ -135,6 +141,7 @@ unaddressed own status data_words slots other left (inl none) = none
 unaddressed own status data_words slots other left (inr found) =
     absurd (true≢false (sym (one-found own status data_words slots found.0 left found.1).0.is ∙ other))
 
+-- so with any hits
 pub answer-unaddressed : (hits : List Hit) (status own : ℕ) (data_words : List ℕ) → address_of status ≢ own → address_of status ≢ 31 →
     last_order own (struck hits (with_data status data_words)) ≡ None
 answer-unaddressed hits status own data_words apart one =

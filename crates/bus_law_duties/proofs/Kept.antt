@@ -19,23 +19,29 @@ pub record OwesStatus (terminal : TerminalData) (command : ℕ) (o : Obeyed) (wo
   pub one : is_broadcast command ≡ false
 
 module _ (terminal : TerminalData) (memory : Memory) (c : Channel) (command : ℕ) where
+  -- what is owed is such a status
   abbrev Owes : Obeyed → Type 0
   Owes o = (words : List Word) (acceptance : Bool) → o.duty ≡ owes words acceptance → OwesStatus terminal command o words acceptance
 
+  -- nothing is promised
   abbrev NoPromise : Obeyed → Type 0
   NoPromise o = (promised transmitter : ℕ) → o.duty ≡ promises promised transmitter → ⊥
 
+  -- a command that is illegal is refused
   abbrev refused : Obeyed
   refused = answered terminal memory c command (with_error terminal memory c true) []
 
+  -- a block that was awaited is taken
   abbrev done : List ℕ → Obeyed
   done words = leaves terminal memory c memory.registers (block_taken terminal command words) (answer terminal memory.registers c command false [])
 
+  -- to a refused one its status is owed
   refused-owes : Owes refused
   refused-owes words acceptance is =
       let found = owing terminal (with_error terminal memory c true) c command false [] words acceptance is in
       record { words_are = found.words_are; acceptance_is = found.acceptance_is; one = found.one }
 
+  -- and to one that is carried out
   done-owes : (block : List ℕ) → Owes (done block)
   done-owes block words acceptance is =
       let found = owing terminal memory.registers c command false [] words acceptance is in
@@ -46,11 +52,13 @@ module _ (terminal : TerminalData) (memory : Memory) (c : Channel) (command : �
         one = found.one;
       }
 
+  -- whatever came, nothing else is owed
   pub kept-owes : (block : Option (List ℕ)) → Owes (kept terminal memory c command block)
   kept-owes None words acceptance = λ is. absurd (free-owes words acceptance is)
   kept-owes (Some block) words acceptance =
       either Owes (is_illegal terminal command) refused (done block) (λ is. refused-owes) (λ is. done-owes block) words acceptance
 
+  -- and nothing is promised
   pub kept-promises : (block : Option (List ℕ)) → NoPromise (kept terminal memory c command block)
   kept-promises None promised transmitter = free-promises promised transmitter
   kept-promises (Some block) promised transmitter =

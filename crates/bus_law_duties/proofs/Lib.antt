@@ -13,3 +13,4 @@ pub mod OneOwes
 pub mod Kept
 pub mod Settled
 pub mod Offered
+pub mod Answering

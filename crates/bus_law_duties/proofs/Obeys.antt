@@ -35,6 +35,7 @@ module _ (k : ℕ) (loads : List TimedLoad) (c : Channel) (start : ℕ) (hits : 
     pub found : last_order (address_of_station station) (struck hits (command_words item.kind)) ≡ Some order
     pub is : after ≡ moved station (obeyed order)
 
+  -- by whether it serves, and finds an order
   by-order : (b : Bool) (o : Option Order) → station.serves ≡ b → last_order (address_of_station station) (struck hits (command_words item.kind)) ≡ o →
       (after ≡ unmoved station) ⊎ ((order : Order) × Obeys order)
   by-order false o idle found =
@@ -57,11 +58,13 @@ module _ (k : ℕ) (loads : List TimedLoad) (c : Channel) (start : ℕ) (hits : 
         },
       )
 
+  -- it obeys an order, or stays as it was
   pub obeys-or-not : (after ≡ unmoved station) ⊎ ((order : Order) × Obeys order)
   obeys-or-not = by-order station.serves (last_order (address_of_station station) (struck hits (command_words item.kind))) refl refl
 
 -- ---- a struck command
 
+-- two functions with equal values make equal lists
 map-same : {X Y : Type 0} (f g : X → Y) (xs : List X) → ((x : X) → f x ≡ g x) → map f xs ≡ map g xs
 map-same f g [] same = refl
 map-same f g (x ∷ xs) same = ap (λ y. y ∷ map f xs) (same x) ∙ ap (λ ys. g x ∷ ys) (map-same f g xs same)
@@ -75,6 +78,7 @@ none-left (Relay from from_sub to to_sub count) own address slots one left = let
 none-left (Mode to mode_sub transmit code word) own address slots one left =
     no-command own None slots refl (data-unaddressed own (option_to_list word) slots left.1)
 
+-- so a station stays as it was
 struck-unmoved : (k : ℕ) (loads : List TimedLoad) (c : Channel) (start : ℕ) (hits : List Hit) (item : ItemData) (address : ℕ) (slots : List (Option Word))
     (station : Present) → addresses_named item.kind ≡ address ∷ [] → struck hits (command_words item.kind) ≡ None ∷ slots →
     (after k loads c start hits item station ≡ unmoved station) ⊎ ((order : Order) × Obeys k loads c start hits item station order) →
@@ -85,6 +89,7 @@ struck-unmoved k loads c start hits item address slots station one none (inr fou
     ∙ none-left item.kind (address_of_station station) address slots one (subst (AreLeftOf (command_words item.kind)) none (struck-left hits (command_words item.kind))))
     ∙ found.1.found))
 
+-- and so does each
 pub struck-for-nobody : (k : ℕ) (loads : List TimedLoad) (c : Channel) (start : ℕ) (hits : List Hit) (item : ItemData) (stations : List Present)
     (address : ℕ) (slots : List (Option Word)) → addresses_named item.kind ≡ address ∷ [] → struck hits (command_words item.kind) ≡ None ∷ slots →
     map (after_command k loads (command_burst c start hits item)) stations ≡ map unmoved stations

@@ -55,6 +55,7 @@ status-read to status acceptance a =
     ap (λ (b : Bool). if b && is_clean status then Some status else None) same
     ∙ ap (λ (b : Bool). if b then Some status else None) a.clean
 
+-- one that accepts, with no message error, passes control
 accepting-read : (status : ℕ) (error accepts : Bool) → error ≡ false → accepts ≡ true →
     (if error then Ends (Illegal First) (Some status) else if accepts then Ends Passed (Some status) else Ends Declined (Some status))
     ≡ Ends Passed (Some status)
@@ -62,6 +63,7 @@ accepting-read status error accepts fine willing =
     skips error (Ends (Illegal First) (Some status)) (if accepts then Ends Passed (Some status) else Ends Declined (Some status)) fine
     ∙ takes accepts (Ends Passed (Some status)) (Ends Declined (Some status)) willing
 
+-- it is read as it is meant
 offer-read : (to status : ℕ) (acceptance : Bool) → Answers to status acceptance → read_offer First (Some status) ≡ meant_by status acceptance
 offer-read to status true a = accepting-read status (flags_in status).message_error (flags_in status).acceptance (a.error refl) a.accepts
 offer-read to status false a =
@@ -71,6 +73,7 @@ offer-read to status false a =
 -- ---- what is left of a status
 
 module _ (shape : Shape) (status : ℕ) (acceptance : Bool) (a : Answers shape.address status acceptance) where
+  -- the status alone
   alone-read : (slots : List (Option Word)) → slots ≡ Some (command_word status) ∷ [] →
       read_offer First (status_alone shape slots 0) ≡ meant_by status acceptance
   alone-read slots same =
@@ -78,9 +81,11 @@ module _ (shape : Shape) (status : ℕ) (acceptance : Bool) (a : Answers shape.a
       ∙ ap (read_offer First) (status-read shape.address status acceptance a)
       ∙ offer-read shape.address status acceptance a
 
+  -- a slot that is no status
   none-read : (slot : Option Word) → command_in slot ≡ None → read_offer First (status_alone shape (slot ∷ []) 0) ≡ bad_reply First
   none-read slot none = ap (λ o. read_offer First (status_from shape.address o)) none
 
+  -- all else is a bad reply
   otherwise-read : (slots : List (Option Word)) → AreLeftOf (with_data status []) slots → slots ≢ Some (command_word status) ∷ [] →
       read_offer First (status_alone shape slots 0) ≡ bad_reply First
   otherwise-read [] left other = refl
@@ -89,6 +94,7 @@ module _ (shape : Shape) (status : ℕ) (acceptance : Bool) (a : Answers shape.a
   otherwise-read (slot ∷ []) (inr (inr added), rest) other = none-read slot (ap command_in added)
   otherwise-read (slot ∷ next ∷ slots) left other = refl
 
+  -- so what is left is read as it was meant, or as a bad reply
   read-as-meant : (slots : List (Option Word)) → AreLeftOf (with_data status []) slots →
       IsReadAsMeant status acceptance slots (read_offer First (status_alone shape slots 0))
   read-as-meant slots left = record { alone = alone-read slots; otherwise = otherwise-read slots left }
@@ -109,6 +115,7 @@ by-offer to mode_sub code transmit word slots offers one =
     ap (λ (o : Option Shape). read_shape First kind o slots 0) (skips {X = Option Shape} (to == 31) None (Some shape) test)
     ∙ takes (code == dynamic_bus_control) (read_offer First alone) others offers
 
+-- a word without the four unused bits is clean
 clean-test : (status : ℕ) → status / 512 % 2 ≡ 0 → status / 32 % 8 ≡ 0 → is_clean status ≡ true
 clean-test status instrumentation reserved = grind (arith, nat_tests, instrumentation, reserved)
 
@@ -146,6 +153,7 @@ kind-read (Mode to mode_sub transmit code word) own status acceptance slots offe
     subst (IsReadAsMeant status acceptance slots) (sym (by-offer to mode_sub code transmit word slots offers (λ all. one (sym same ∙ all))))
     (read-as-meant shape status acceptance (subst (λ n. Answers n status acceptance) (sym same) a) slots left)
 
+-- an offer has one command
 offer-one : (kind : Kind) → HasKindRanges kind → is_offer kind ≡ true → OneCommand kind
 offer-one (Receive to sub words) ranges offers = absurd (true≢false (sym offers))
 offer-one (Transmit from sub count) ranges offers = absurd (true≢false (sym offers))
@@ -159,6 +167,7 @@ mode-address kind one to mode_sub code transmit word same =
     ap (λ (xs : List ℕ). get_or xs 0 0) (sym (ap addresses_named same) ∙ one.named)
 
 module _ (k : ℕ) (loads : List TimedLoad) (c : Channel) (start : ℕ) (hits strikes : List Hit) (item : ItemData) (station : Present) where
+  -- the answer of a station to an offer is its status, and is read so
   pub offer-is-read : (words : List Word) (acceptance : Bool) → HasKindRanges item.kind → is_offer item.kind ≡ true → address_of_station station ≤ 31 →
       (after k loads c start hits item station).duty ≡ owes words acceptance →
       (words ≡ with_data (status_after (after k loads c start hits item station) acceptance) [])

@@ -54,9 +54,11 @@ one-owes kind station c memory slots one left a =
 
 module _ (station other : Present) (c : Channel) (memory memories : Memory) (slots : List (Option Word)) (a : OwesIn station c memory slots)
     (b : OwesIn other c memories slots) where
+  -- so two that owe in it have one address
   one-same : (kind : Kind) → OneCommand kind → AreLeftOf (command_words kind) slots → address_of_station station ≡ address_of_station other
   one-same kind one left = one-owes kind station c memory slots one left a ∙ sym (one-owes kind other c memories slots one left b)
 
+  -- likewise in each kind of message
   kind-same : (kind : Kind) → HasKindRanges kind → AreLeftOf (command_words kind) slots → address_of_station station ≡ address_of_station other
   kind-same (Receive to sub words) ranges left = one-same (Receive to sub words) (one-command (Receive to sub words) ranges refl) left
   kind-same (Transmit from sub count) ranges left = one-same (Transmit from sub count) (one-command (Transmit from sub count) ranges refl) left
@@ -71,14 +73,28 @@ module _ (station other : Present) (c : Channel) (memory memories : Memory) (slo
   kind-same (Mode to mode_sub transmit code word) ranges left =
       one-same (Mode to mode_sub transmit code word) (one-command (Mode to mode_sub transmit code word) ranges refl) left
 
+-- a duty to answer has words and tells whether it accepts control
 pub owed-is : (duty : Duty) → is_owed duty ≡ true → (words : List Word) × (acceptance : Bool) × (duty ≡ owes words acceptance)
 owed-is free is = absurd (true≢false (sym is))
 owed-is (owes words acceptance) is = (words, acceptance, refl)
 owed-is (promises command transmitter) is = absurd (true≢false (sym is))
 
+-- a Bool that isn't true is false
 pub not-owed : (b : Bool) → (b ≡ true → ⊥) → b ≡ false
 not-owed true none = absurd (none refl)
 not-owed false none = refl
+
+-- what holds of each two of what a function makes of elements
+pairs-of : {X Y : Type 0} (S : Y → Y → Type 0) (f : X → Y) (xs : List X) → AllPairs S (map f xs) → AllPairs (λ a b. S (f a) (f b)) xs
+pairs-of S f xs pairs i j d before inside =
+    let long : length (map f xs) ≡ length xs = length-map xs f in
+    let low : i < length xs = omega (arith, before, inside) in
+    subst (λ y. S y (f (get_or xs j d))) (get_or-map f xs i d (f d) low)
+    (subst (S (get_or (map f xs) i (f d))) (get_or-map f xs j d (f d) inside) (pairs i j (f d) before (omega (arith, inside, long))))
+
+-- stations are apart where their addresses are
+pub stations-apart : (stations : List Present) → AreApart stations → AllPairs (λ a b. address_of_station a ≢ address_of_station b) stations
+stations-apart stations apart = pairs-of (λ a b. a ≢ b) address_of_station stations apart
 
 -- what holds of each two elements holds of what a function makes of them
 pub pairs-map : {X Y : Type 0} (R : X → X → Type 0) (S : Y → Y → Type 0) (f : X → Y) (back : Y → X) (xs : List X) →
@@ -93,6 +109,7 @@ pairs-map R S f back xs each pairs i j d before inside =
 
 -- ---- messages without an answer
 
+-- only a broadcast expects no answer
 pub no-answer : (address count : ℕ) → answer_of address count ≡ None → address ≡ 31
 no-answer address count none = elim (cases_eq address 31) [
   | inl same ↦ same
@@ -101,6 +118,7 @@ no-answer address count none = elim (cases_eq address 31) [
       ∙ skips {X = Option Shape} (address == 31) None (Some record { address = address; count = count }) test)))
 ]
 
+-- to a message that expects no first answer nobody promises anything
 none-promised : (kind : Kind) (own command transmitter : ℕ) (slots : List (Option Word)) → HasKindRanges kind → (answers_of kind).first ≡ None →
     PromisesToCommand kind own command transmitter slots → ⊥
 none-promised (Receive to sub words) own command transmitter slots ranges none promised = promised
@@ -109,13 +127,16 @@ none-promised (Relay from from_sub to to_sub count) own command transmitter slot
     not-31 from from_sub to to_sub count ranges (no-answer from count none)
 none-promised (Mode to mode_sub transmit code word) own command transmitter slots ranges none promised = promised
 
+-- the element of a list of one
 only-one : (own address i : ℕ) → i < length (address ∷ []) → get_or (address ∷ []) i own ≡ own → address ≡ own
 only-one own address zero inside is = is
 only-one own address (suc i) inside is = absurd (omega (arith, inside))
 
+-- a terminal isn't named by a message to all
 only-all : (own address : ℕ) → own ≢ 31 → address ≡ 31 → Contains (address ∷ []) own → ⊥
 only-all own address terminal all (i, inside, is) = terminal (sym (only-one own address i inside is) ∙ all)
 
+-- to a message that expects no answer nobody owes one
 none-owed : (kind : Kind) (own command : ℕ) → HasKindRanges kind → (answers_of kind).first ≡ None → Named kind own command →
     is_broadcast command ≡ false → ⊥
 none-owed (Receive to sub words) own command ranges none named one = only-all own to named.terminal (no-answer to 0 none) (named.named one)
@@ -125,15 +146,19 @@ none-owed (Mode to mode_sub transmit code word) own command ranges none named on
     only-all own to named.terminal (no-answer to (mode_count (carried transmit code)) none) (named.named one)
 
 module _ (k : ℕ) (loads : List TimedLoad) (c : Channel) (start : ℕ) (hits : List Hit) (item : ItemData) where
+  -- the slots of the command
   abbrev shown : List (Option Word)
   shown = struck hits (command_words item.kind)
 
+  -- a station after it
   abbrev after-of : Present → After
   after-of station = after k loads c start hits item station
 
+  -- what its terminal keeps when the command's end is known
   abbrev memory-of : Present → Memory
   memory-of station = memory_at k loads (command_burst c start hits item) station
 
+  -- a station that owes something found an order in the slots
   owes-in : (station : Present) (words : List Word) (acceptance : Bool) → (after-of station).duty ≡ owes words acceptance →
       OwesIn station c (memory-of station) shown
   owes-in station words acceptance is =
@@ -146,6 +171,7 @@ module _ (k : ℕ) (loads : List TimedLoad) (c : Channel) (start : ℕ) (hits : 
         is = sym (ap (λ (a : After). a.duty) to.obeys.is) ∙ is;
       }
 
+  -- two that owe something have one address
   same-address : HasKindRanges item.kind → (a b : Present) → is_owed (after-of a).duty ≡ true → is_owed (after-of b).duty ≡ true →
       address_of_station a ≡ address_of_station b
   same-address ranges a b first second =
@@ -154,14 +180,17 @@ module _ (k : ℕ) (loads : List TimedLoad) (c : Channel) (start : ℕ) (hits : 
       kind-same a b c (memory-of a) (memory-of b) shown (owes-in a one.0 one.1 one.2) (owes-in b two.0 two.1 two.2) item.kind ranges
       (struck-left hits (command_words item.kind))
 
+  -- so of stations that are apart at most one owes
   pub one-owes-at-most : (stations : List Present) → HasKindRanges item.kind → AreApart stations → AtMostOneOwes (map after-of stations)
   one-owes-at-most stations ranges apart =
       pairs-map (λ a b. address_of_station a ≢ address_of_station b) (λ (a b : After). is_owed a.duty ≡ true → is_owed b.duty ≡ false)
       after-of (λ (a : After). a.station) stations
-      (λ a b differ first. not-owed (is_owed (after-of b).duty) (λ second. differ (same-address ranges a b first second))) apart
+      (λ a b differ first. not-owed (is_owed (after-of b).duty) (λ second. differ (same-address ranges a b first second)))
+      (stations-apart stations apart)
 
   -- ---- where no answer is expected
 
+  -- a station's duty where no answer is expected
   free-by : HasKindRanges item.kind → (answers_of item.kind).first ≡ None → (station : Present) (duty : Duty) → (after-of station).duty ≡ duty → duty ≡ free
   free-by ranges none station free is = refl
   free-by ranges none station (owes words acceptance) is =
@@ -172,6 +201,7 @@ module _ (k : ℕ) (loads : List TimedLoad) (c : Channel) (start : ℕ) (hits : 
       absurd (none-promised item.kind (address_of_station station) command transmitter shown ranges none
       (who-promises k loads c start hits item station command transmitter ranges is))
 
+  -- so nobody owes or promises anything there
   pub none-owes : (stations : List Present) → HasKindRanges item.kind → (answers_of item.kind).first ≡ None → AreFree (map after-of stations)
   none-owes stations ranges none =
       All-map (λ (a : After). a.duty ≡ free) after-of stations

@@ -26,16 +26,19 @@ pub either : {X : Type 0} (P : X → Type 0) (b : Bool) (x y : X) → (b ≡ tru
 either P true x y first second = first refl
 either P false x y first second = second refl
 
+-- neither of two
 or-false : (a b : Bool) → (a || b) ≡ false → a ≡ false
 or-false true b is = absurd (true≢false is)
 or-false false b is = refl
 
+-- each of three
 and-three : (a b c : Bool) → (a && b && c) ≡ true → (a ≡ true) × (b ≡ true) × (c ≡ true)
 and-three true true true is = (refl, refl, refl)
 and-three true true false is = absurd (true≢false (sym is))
 and-three true false c is = absurd (true≢false (sym is))
 and-three false b c is = absurd (true≢false (sym is))
 
+-- the first of two
 and-first : (a b : Bool) → (a && b) ≡ true → a ≡ true
 and-first true b is = refl
 and-first false b is = is
@@ -46,10 +49,12 @@ code-mode command code is = and-first (is_mode command) (field_of command == cod
 
 -- ---- registers
 
+-- taking a block changes no register
 pub kept-registers : (m : Memory) (taken : Option Taken) → (after_taking m taken).registers ≡ m.registers
 kept-registers m None = refl
 kept-registers m (Some block) = refl
 
+-- shutting a transmitter down or opening it leaves message error as it is
 off-error : (r : Registers) (c : Channel) (b : Bool) → (with_off r c b).message_error ≡ r.message_error
 off-error r A b = refl
 off-error r B b = refl
@@ -72,12 +77,14 @@ pub record Owing (words own_words : List Word) (acceptance own_acceptance : Bool
   pub acceptance_is : acceptance ≡ own_acceptance
   pub one : is_broadcast command ≡ false
 
+-- by whether an answer is sent at all
 owing-by : (b : Bool) (words own_words : List Word) (acceptance own_acceptance : Bool) →
     (if b then free else owes own_words own_acceptance) ≡ owes words acceptance →
     (b ≡ false) × (words ≡ own_words) × (acceptance ≡ own_acceptance)
 owing-by true words own_words acceptance own_acceptance is = cc
 owing-by false words own_words acceptance own_acceptance is = (refl, cc, cc)
 
+-- so an answer that is owed is its status and its data words, to a command that isn't broadcast
 pub owing : (terminal : TerminalData) (r : Registers) (c : Channel) (command : ℕ) (given : Bool) (data_words : List ℕ) (words : List Word)
     (acceptance : Bool) → answer terminal r c command given data_words ≡ owes words acceptance →
     Owing words (with_data (status_of terminal r given) data_words) acceptance given command
@@ -85,6 +92,7 @@ owing terminal r c command given data_words words acceptance is =
     let found = owing-by _ words (with_data (status_of terminal r given) data_words) acceptance given is in
     record { words_are = found.1; acceptance_is = found.2; one = or-false _ _ found.0 }
 
+-- sent or not, an answer is no promise
 promised-by : (b : Bool) (words : List Word) (acceptance : Bool) (command transmitter : ℕ) →
     (if b then free else owes words acceptance) ≡ promises command transmitter → ⊥
 promised-by true words acceptance command transmitter is = cc
@@ -115,13 +123,16 @@ pub record Owed (terminal : TerminalData) (memory : Memory) (command : ℕ) (may
   pub alone : has_code command dynamic_bus_control ≡ true → data_words ≡ []
   pub sendable : HasTerminalRanges terminal → HasMemoryRanges memory → AreSendable data_words
 
+-- a command with another mode code offers no control
 two-codes : (command code : ℕ) → code ≢ dynamic_bus_control → has_code command code ≡ true → has_code command dynamic_bus_control ≡ false
 two-codes command code apart is = grind (arith, nat_tests, apart, is)
 
 module _ (terminal : TerminalData) (memory : Memory) (c : Channel) (command : ℕ) (received : List ℕ) (may : Bool) where
+  -- the registers before the command
   abbrev registers : Registers
   registers = memory.registers
 
+  -- an illegal command; one for the status; one for the last command; a reset
   abbrev after-illegal : Obeyed
   after-illegal = answered terminal memory c command (marked registers command true) []
 
@@ -134,12 +145,14 @@ module _ (terminal : TerminalData) (memory : Memory) (c : Channel) (command : �
   abbrev after-reset : Obeyed
   after-reset = answered terminal memory c command (reset registers) []
 
+  -- any other has its effect
   abbrev effect : Registers
   effect = mode_effect (marked registers command false) c command received
 
   abbrev after-effect : Obeyed
   after-effect = carried_out terminal memory c command received may effect
 
+  -- what holds of each of these holds of the command
   by-case : (P : Obeyed → Type 0) → P after-illegal → P after-status → (has_code command transmit_last_command ≡ true → P after-last) → P after-reset →
       P after-effect → P (obey_data terminal memory c command received may registers)
   by-case P illegal status last resets others =
@@ -156,9 +169,11 @@ module _ (terminal : TerminalData) (memory : Memory) (c : Channel) (command : �
       last
       (λ is. either P (has_code command reset_remote_terminal) after-reset after-effect (λ is. resets) (λ is. others))))
 
+  -- what is owed after it is such an answer
   abbrev Owes : Obeyed → Type 0
   Owes o = (words : List Word) (acceptance : Bool) → o.duty ≡ owes words acceptance → Owed terminal memory command may o words acceptance
 
+  -- of an answer with these registers
   leaves-owes : (r : Registers) (taken : Option Taken) (given : Bool) (data_words : List ℕ) → (given ≡ true → Accepting terminal command may r) →
       (has_code command dynamic_bus_control ≡ true → data_words ≡ []) →
       (HasTerminalRanges terminal → HasMemoryRanges memory → AreSendable data_words) →
@@ -180,6 +195,7 @@ module _ (terminal : TerminalData) (memory : Memory) (c : Channel) (command : �
       (HasTerminalRanges terminal → HasMemoryRanges memory → AreSendable data_words) → Owes (answered terminal memory c command r data_words)
   plain-owes r data_words alone sendable = leaves-owes r None false data_words (λ is. absurd (true≢false (sym is))) alone sendable
 
+  -- an answer that accepts control follows an offer
   accepting-effect : accepts terminal command may ≡ true → Accepting terminal command may effect
   accepting-effect is =
       let all = and-three (has_code command dynamic_bus_control) terminal.accepts may is in
@@ -199,6 +215,7 @@ module _ (terminal : TerminalData) (memory : Memory) (c : Channel) (command : �
       (λ another. absurd (true≢false (sym is ∙ two-codes command transmit_bit_word (λ same. absurd (omega (arith, same))) another)))
       (λ another. ap (λ (b : Bool). if b || not (is_transmit command) || terminal.busy then [] else sent) (code-mode command dynamic_bus_control is)))
 
+  -- so of a command with its data words
   pub data-owed : Owes (obey_data terminal memory c command received may registers)
   data-owed =
       by-case Owes
@@ -215,6 +232,7 @@ module _ (terminal : TerminalData) (memory : Memory) (c : Channel) (command : �
   abbrev NoPromise : Obeyed → Type 0
   NoPromise o = (promised transmitter : ℕ) → o.duty ≡ promises promised transmitter → ⊥
 
+  -- a command with its data words leaves no promise
   pub data-promises : NoPromise (obey_data terminal memory c command received may registers)
   data-promises =
       by-case NoPromise
@@ -226,6 +244,7 @@ module _ (terminal : TerminalData) (memory : Memory) (c : Channel) (command : �
 
 -- ---- by what follows the command
 
+-- what is owed to a command, whatever follows it
 pub tail-owed : (terminal : TerminalData) (memory : Memory) (c : Channel) (command : ℕ) (may : Bool) (tail : Tail) (words : List Word) (acceptance : Bool) →
     (obey_tail terminal memory c command may tail).duty ≡ owes words acceptance →
     Owed terminal memory command may (obey_tail terminal memory c command may tail) words acceptance

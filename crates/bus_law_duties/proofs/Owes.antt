@@ -30,6 +30,7 @@ use Rattle.bus_law_duties.proofs.Sent.{loads-ranges}
 use Rattle.bus_law_duties.proofs.Status.{status-address}
 use Rattle.bus_law_duties.proofs.Struck.{struck-left}
 
+-- nothing owed is no answer owed
 pub free-owes : (words : List Word) (acceptance : Bool) → free ≡ owes words acceptance → ⊥
 free-owes words acceptance is = cc
 
@@ -41,6 +42,7 @@ pub record Named (kind : Kind) (own command : ℕ) : Type 0 where
   pub named : is_broadcast command ≡ false → Contains (addresses_named kind) own
   pub offer : has_code command dynamic_bus_control ≡ true → is_offer kind ≡ true
 
+-- the command of a message to one address names it
 one-named : (kind : Kind) (own : ℕ) (slots : List (Option Word)) (order : Order) → OneCommand kind → AreLeftOf (command_words kind) slots →
     last_order own slots ≡ Some order → Named kind own order.command
 one-named kind own slots order one left found =
@@ -53,12 +55,14 @@ one-named kind own slots order one left found =
     }
 
 module _ (from from_sub to to_sub count : ℕ) (ranges : HasKindRanges (Relay from from_sub to to_sub count)) where
+  -- the two command words of a relay
   abbrev one : ℕ
   one = first from from_sub to to_sub count ranges
 
   abbrev two : ℕ
   two = second from from_sub to to_sub count ranges
 
+  -- the first names the receiver, and the second the transmitter
   relay-named : (own : ℕ) (slots : List (Option Word)) (order : Order) →
       (AtFirst own one slots order × AreLeftOf (with_data two []) order.tail) ⊎ (AtSecond own two slots order × AreLeftOf [] order.tail) →
       Named (Relay from from_sub to to_sub count) own order.command
@@ -77,6 +81,7 @@ module _ (from from_sub to to_sub count : ℕ) (ranges : HasKindRanges (Relay fr
         ∙ no-code two dynamic_bus_control (second-not-mode from from_sub to to_sub count ranges)));
   }
 
+-- so of each kind of message
 kind-named : (kind : Kind) (own : ℕ) (slots : List (Option Word)) (order : Order) → HasKindRanges kind → AreLeftOf (command_words kind) slots →
     last_order own slots ≡ Some order → Named kind own order.command
 kind-named (Receive to sub words) own slots order ranges left found =
@@ -99,6 +104,7 @@ module _ (k : ℕ) (loads : List TimedLoad) (c : Channel) (start : ℕ) (hits : 
     pub owed : Owed station.plan.terminal (memory_at k loads (command_burst c start hits item) station) order.command (has_items station.left)
         (obeyed k loads c start hits item station order) words acceptance
 
+  -- by whether it obeyed
   owes-by : (words : List Word) (acceptance : Bool) → (after k loads c start hits item station).duty ≡ owes words acceptance →
       (after k loads c start hits item station ≡ unmoved station) ⊎ ((order : Order) × Obeys k loads c start hits item station order) →
       OwesTo words acceptance
@@ -110,16 +116,19 @@ module _ (k : ℕ) (loads : List TimedLoad) (c : Channel) (start : ℕ) (hits : 
         (tail_of (address_of_station station) order.command order.tail 0) words acceptance (sym (ap (λ (a : After). a.duty) obeys.is) ∙ is);
   }
 
+  -- so what is owed is owed to an order
   pub owes-to : (words : List Word) (acceptance : Bool) → (after k loads c start hits item station).duty ≡ owes words acceptance →
       OwesTo words acceptance
   owes-to words acceptance is = owes-by words acceptance is (obeys-or-not k loads c start hits item station)
 
+  -- which names the station
   pub owes-named : (words : List Word) (acceptance : Bool) (to : OwesTo words acceptance) → HasKindRanges item.kind →
       Named item.kind (address_of_station station) to.order.command
   owes-named words acceptance to ranges =
       kind-named item.kind (address_of_station station) (struck hits (command_words item.kind)) to.order ranges
       (struck-left hits (command_words item.kind)) to.obeys.found
 
+  -- what it owes is its status with data words in their ranges
   pub who-owes : (words : List Word) (acceptance : Bool) → HasKindRanges item.kind → All HasTimedLoadRanges loads → HasPresentRanges station →
       (after k loads c start hits item station).duty ≡ owes words acceptance →
       (data_words : List ℕ) × OwesToCommand item.kind (after k loads c start hits item station) acceptance data_words words

@@ -24,6 +24,7 @@ use Rattle.bus_law_duties.proofs.Owed.{tail-promised}
 use Rattle.bus_law_duties.proofs.Relayed.{data-promised, Relayed, second-promised, relay-other, first, second, from-is, to-is}
 use Rattle.bus_law_duties.proofs.Struck.{struck-left}
 
+-- nothing promised is no promise
 pub free-promises : (command transmitter : ℕ) → free ≡ promises command transmitter → ⊥
 free-promises command transmitter is = cc
 
@@ -42,16 +43,19 @@ module _ (own : ℕ) (slots : List (Option Word)) (order : Order) (found : last_
       data-promised own order.command transmitter one.data_words order.tail at.1 asked.relayed
 
   module _ (from from_sub to to_sub count : ℕ) (ranges : HasKindRanges (Relay from from_sub to to_sub count)) where
+    -- the two command words of a relay
     abbrev one : ℕ
     one = first from from_sub to to_sub count ranges
 
     abbrev two : ℕ
     two = second from from_sub to to_sub count ranges
 
+    -- a receiver is named by itself, or with all
     named-by : (address : ℕ) → address ≡ to → (address ≡ own) ⊎ (address ≡ 31) → (to ≡ own) ⊎ (to ≡ 31)
     named-by address same (inl is) = inl (sym same ∙ is)
     named-by address same (inr all) = inr (sym same ∙ all)
 
+    -- in a relay its receivers, by the first command, where the second follows it whole
     relay-asked : (AtFirst own one slots order × AreLeftOf (with_data two []) order.tail) ⊎ (AtSecond own two slots order × AreLeftOf [] order.tail) →
         PromisesToRelay from from_sub to to_sub count own command transmitter slots
     relay-asked (inr at) = absurd (data-promised own order.command transmitter [] order.tail at.1 asked.relayed)
@@ -68,6 +72,7 @@ module _ (own : ℕ) (slots : List (Option Word)) (order : Order) (found : last_
           whole = at.0.shown ∙ ap (λ s. Some (command_word one) ∷ s) by.shown;
         }
 
+  -- so by each kind of message
   kind-asked : (kind : Kind) → HasKindRanges kind → AreLeftOf (command_words kind) slots → PromisesToCommand kind own command transmitter slots
   kind-asked (Receive to sub words) ranges left = one-asked (Receive to sub words) (one-command (Receive to sub words) ranges refl) left
   kind-asked (Transmit from sub count) ranges left = one-asked (Transmit from sub count) (one-command (Transmit from sub count) ranges refl) left
@@ -78,6 +83,7 @@ module _ (own : ℕ) (slots : List (Option Word)) (order : Order) (found : last_
       one-asked (Mode to mode_sub transmit code word) (one-command (Mode to mode_sub transmit code word) ranges refl) left
 
 module _ (k : ℕ) (loads : List TimedLoad) (c : Channel) (start : ℕ) (hits : List Hit) (item : ItemData) (station : Present) where
+  -- by whether the station obeyed
   promised-by : (command transmitter : ℕ) → HasKindRanges item.kind → (after k loads c start hits item station).duty ≡ promises command transmitter →
       (after k loads c start hits item station ≡ unmoved station) ⊎ ((order : Order) × Obeys k loads c start hits item station order) →
       PromisesToCommand item.kind (address_of_station station) command transmitter (struck hits (command_words item.kind))
@@ -88,6 +94,7 @@ module _ (k : ℕ) (loads : List TimedLoad) (c : Channel) (start : ℕ) (hits : 
       kind-asked (address_of_station station) (struck hits (command_words item.kind)) order obeys.found command transmitter
       (record { command_is = found.0; relayed = found.1 }) item.kind ranges (struck-left hits (command_words item.kind))
 
+  -- so a station that promises is a relay's receiver
   pub who-promises : (command transmitter : ℕ) → HasKindRanges item.kind → (after k loads c start hits item station).duty ≡ promises command transmitter →
       PromisesToCommand item.kind (address_of_station station) command transmitter (struck hits (command_words item.kind))
   who-promises command transmitter ranges is = promised-by command transmitter ranges is (obeys-or-not k loads c start hits item station)

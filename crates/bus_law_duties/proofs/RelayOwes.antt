@@ -16,7 +16,7 @@ use Rattle.bus_model.specs.Orders.{owes, promises, is_for, Order, order_with, la
 use Rattle.bus_model.specs.Starts.{has_items}
 use Rattle.bus_law_duties.specs.Words.{with_data, AreLeftOf}
 use Rattle.bus_law_duties.proofs.Fields.{own-one, own-terminal, for-own}
-use Rattle.bus_law_duties.proofs.Found.{AtFirst, AtSecond}
+use Rattle.bus_law_duties.proofs.Found.{same-tail, AtFirst, AtSecond}
 use Rattle.bus_law_duties.proofs.Owes.{free-owes}
 use Rattle.bus_law_duties.proofs.Relayed.{first, second, from-is, to-is, is-relayed, none-expected}
 
@@ -35,6 +35,7 @@ by-tail : (station : Present) (c : Channel) (memory : Memory) (order : Order) (w
 by-tail station c memory order words acceptance tail same is =
     sym (ap (λ t. (obey_tail station.plan.terminal memory c order.command (has_items station.left) t).duty) same) ∙ is
 
+-- a promise is no answer owed
 promises-owes : (command transmitter : ℕ) (words : List Word) (acceptance : Bool) → promises command transmitter ≡ owes words acceptance → ⊥
 promises-owes command transmitter words acceptance is = cc
 
@@ -50,13 +51,14 @@ pub record OwesFirst (own to one two : ℕ) (slots : List (Option Word)) : Type 
   pub shown : slots ≡ Some (command_word one) ∷ tail
   pub other : tail ≢ Some (command_word two) ∷ []
 
--- the transmitter, to the second one_bits, which is the last word
+-- the transmitter, to the second one, which is the last word
 pub record OwesSecond (own from two : ℕ) (slots : List (Option Word)) : Type 0 where
   pub own_is : own ≡ from
   pub slot : Option Word
   pub shown : slots ≡ slot ∷ Some (command_word two) ∷ []
 
 module _ (from from_sub to to_sub count : ℕ) (ranges : HasKindRanges (Relay from from_sub to to_sub count)) where
+  -- the two command words
   abbrev one_bits : ℕ
   one_bits = first from from_sub to to_sub count ranges
 
@@ -65,6 +67,7 @@ module _ (from from_sub to to_sub count : ℕ) (ranges : HasKindRanges (Relay fr
 
   module _ (station : Present) (c : Channel) (memory : Memory) (order : Order) (words : List Word) (acceptance : Bool) (slots : List (Option Word))
       (is : OwesOrder station c memory order words acceptance) (single : is_broadcast order.command ≡ false) where
+    -- the terminal's address
     abbrev own_address : ℕ
     own_address = address_of_station station
 
@@ -74,6 +77,7 @@ module _ (from from_sub to to_sub count : ℕ) (ranges : HasKindRanges (Relay fr
         none-some record { command = two_bits; tail = [] } (sym at.last ∙ ap (last_order own_address) follows
         ∙ alone-found own_address two_bits (for-own own_address two_bits (own-terminal own_address one_bits at.is) (inl (from-is from from_sub to to_sub count ranges ∙ sym same))))
 
+    -- so the second command doesn't follow the first one whole and alone: that would be a promise
     first-alone : AtFirst own_address one_bits slots order → order.tail ≡ Some (command_word two_bits) ∷ [] → ⊥
     first-alone at follows =
         let relayed : tail_of own_address order.command order.tail 0 ≡ relay_from from =
@@ -81,6 +85,7 @@ module _ (from from_sub to to_sub count : ℕ) (ranges : HasKindRanges (Relay fr
         ∙ is-relayed from from_sub to to_sub count ranges own_address (not-transmitter at follows) in
         promises-owes order.command from words acceptance (by-tail station c memory order words acceptance (relay_from from) relayed is)
 
+    -- who owes to the first command
     owes-first : AtFirst own_address one_bits slots order → OwesFirst own_address to one_bits two_bits slots
     owes-first at = record {
       own_is = sym (own-one own_address one_bits at.is (ap is_broadcast (sym at.command) ∙ single)) ∙ to-is from from_sub to to_sub count ranges;
@@ -89,6 +94,7 @@ module _ (from from_sub to to_sub count : ℕ) (ranges : HasKindRanges (Relay fr
       other = first-alone at;
     }
 
+    -- nothing follows the second command, or it would be answered by nobody
     second-last : (tail : List (Option Word)) → order.tail ≡ tail → AtSecond own_address two_bits slots order → order.tail ≡ []
     second-last [] same at = same
     second-last (slot ∷ later) same at =
@@ -97,6 +103,7 @@ module _ (from from_sub to to_sub count : ℕ) (ranges : HasKindRanges (Relay fr
         ∙ none-expected from from_sub to to_sub count ranges own_address slot later in
         absurd (free-owes words acceptance (by-tail station c memory order words acceptance unexpected none is))
 
+    -- who owes to the second command
     owes-second : AtSecond own_address two_bits slots order → OwesSecond own_address from two_bits slots
     owes-second at = record {
       own_is = sym (own-one own_address two_bits at.is (ap is_broadcast (sym at.command) ∙ single)) ∙ from-is from from_sub to to_sub count ranges;
@@ -104,19 +111,18 @@ module _ (from from_sub to to_sub count : ℕ) (ranges : HasKindRanges (Relay fr
       shown = at.shown ∙ ap (λ tail. at.slot ∷ Some (command_word two_bits) ∷ tail) (second-last order.tail refl at);
     }
 
+    -- one of both
     pub relay-owes : (AtFirst own_address one_bits slots order × AreLeftOf (with_data two_bits []) order.tail) ⊎ (AtSecond own_address two_bits slots order × AreLeftOf [] order.tail) →
         OwesFirst own_address to one_bits two_bits slots ⊎ OwesSecond own_address from two_bits slots
     relay-owes (inl at) = inl (owes-first at.0)
     relay-owes (inr at) = inr (owes-second at.0)
 
-second-tail : (a b : Option Word) (xs ys : List (Option Word)) → a ∷ xs ≡ b ∷ ys → xs ≡ ys
-second-tail a b xs ys same = cc
-
+-- two that owe something have one address: both commands aren't answered
 pub both-owe : (own other from to one two : ℕ) (slots : List (Option Word)) → OwesFirst own to one two slots ⊎ OwesSecond own from two slots →
     OwesFirst other to one two slots ⊎ OwesSecond other from two slots → own ≡ other
 both-owe own other from to one two slots (inl a) (inl b) = a.own_is ∙ sym b.own_is
 both-owe own other from to one two slots (inr a) (inr b) = a.own_is ∙ sym b.own_is
 both-owe own other from to one two slots (inl a) (inr b) =
-    absurd (a.other (second-tail (Some (command_word one)) b.slot a.tail (Some (command_word two) ∷ []) (sym a.shown ∙ b.shown)))
+    absurd (a.other (same-tail (Some (command_word one)) b.slot a.tail (Some (command_word two) ∷ []) (sym a.shown ∙ b.shown)))
 both-owe own other from to one two slots (inr a) (inl b) =
-    absurd (b.other (second-tail (Some (command_word one)) a.slot b.tail (Some (command_word two) ∷ []) (sym b.shown ∙ a.shown)))
+    absurd (b.other (same-tail (Some (command_word one)) a.slot b.tail (Some (command_word two) ∷ []) (sym b.shown ∙ a.shown)))

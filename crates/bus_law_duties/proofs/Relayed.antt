@@ -18,10 +18,12 @@ use Rattle.bus_law_duties.proofs.Found.{data-left}
 
 -- ---- who is asked to relay
 
+-- a test that gives a transmitter held
 transmitter-by : (b : Bool) (address transmitter : ℕ) → (if b then Some address else None) ≡ Some transmitter → (b ≡ true) × (transmitter ≡ address)
 transmitter-by true address transmitter found = (refl, sym (same_Some address transmitter found))
 transmitter-by false address transmitter found = absurd (none-some transmitter found)
 
+-- a relay in what follows a command has a transmitter
 tail-relay : (o : Option ℕ) (words : Option (List ℕ)) (transmitter : ℕ) → tail_by o words ≡ relay_from transmitter → o ≡ Some transmitter
 tail-relay (Some from) words transmitter is = let same : from ≡ transmitter = cc in ap Some same
 tail-relay None (Some words) transmitter is = absurd cc
@@ -35,6 +37,7 @@ data-relays own command [] (slot ∷ []) left = ap (transmitter_in own command) 
 data-relays own command (bits ∷ data_words) (slot ∷ []) left = ap (transmitter_in own command) (data-left bits slot left.0)
 data-relays own command data_words (slot ∷ next ∷ slots) left = refl
 
+-- so a command with data words is no relay
 pub data-promised : (own command transmitter : ℕ) (data_words : List ℕ) (slots : List (Option Word)) → AreLeftOf (map data_word data_words) slots →
     tail_of own command slots 0 ≡ relay_from transmitter → ⊥
 data-promised own command transmitter data_words slots left is =
@@ -46,6 +49,7 @@ pub record Relayed (own first second transmitter : ℕ) (slots : List (Option Wo
   pub transmitter_is : transmitter ≡ address_of second
   pub relay : is_relay own first second ≡ true
 
+-- the only slot is the second command, and whole
 second-relays : (own first second transmitter : ℕ) (slots : List (Option Word)) → AreLeftOf (with_data second []) slots →
     relay_in own first slots ≡ Some transmitter → Relayed own first second transmitter slots
 second-relays own first second transmitter [] left found = absurd (none-some transmitter found)
@@ -59,15 +63,18 @@ second-relays own first second transmitter (slot ∷ []) (inr (inr added), rest)
     absurd (none-some transmitter (sym (ap (transmitter_in own first) (ap command_in added)) ∙ found))
 second-relays own first second transmitter (slot ∷ next ∷ slots) left found = absurd (none-some transmitter found)
 
+-- so a relay is seen where the second command is whole and alone
 pub second-promised : (own first second transmitter : ℕ) (slots : List (Option Word)) → AreLeftOf (with_data second []) slots →
     tail_of own first slots 0 ≡ relay_from transmitter → Relayed own first second transmitter slots
 second-promised own first second transmitter slots left is =
     second-relays own first second transmitter slots left (tail-relay _ (data_in (words_after first) slots) transmitter is)
 
+-- one of several that is false makes all false
 last-false : (a : Bool) → (a && false) ≡ false
 last-false true = refl
 last-false false = refl
 
+-- likewise the second of four
 second-false : (a b c : Bool) → (a && false && b && c) ≡ false
 second-false true b c = refl
 second-false false b c = refl
@@ -81,13 +88,16 @@ relay-other own first second is same =
 
 -- ---- the words of a relay
 
+-- all of four
 four : (a b c d : Bool) → a ≡ true → b ≡ true → c ≡ true → d ≡ true → (a && b && c && d) ≡ true
 four a b c d first second third fourth = rw (first, second, third, fourth) refl
 
+-- two numbers that are a third
 same-field : (a b n : ℕ) → a ≡ n → b ≡ n → (a == b) ≡ true
 same-field a b n first second = grind (arith, nat_tests, first, second)
 
 module _ (from from_sub to to_sub count : ℕ) (ranges : HasKindRanges (Relay from from_sub to to_sub count)) where
+  -- the last field of both command words, and the two
   abbrev n : ℕ
   n = count % 32
 
@@ -97,6 +107,7 @@ module _ (from from_sub to to_sub count : ℕ) (ranges : HasKindRanges (Relay fr
   abbrev pub second : ℕ
   second = command_bits from true from_sub n
 
+  -- the fields fit
   few : n ≤ 31
   few = omega arith
 
@@ -106,24 +117,29 @@ module _ (from from_sub to to_sub count : ℕ) (ranges : HasKindRanges (Relay fr
   from-low : from_sub ≤ 31
   from-low = omega (arith, ranges.0.subaddress)
 
+  -- neither is a mode command
   pub second-not-mode : is_mode second ≡ false
   second-not-mode = plain-mode second from_sub (sub-is from from_sub n true from-low few) ranges.0.subaddress.0 ranges.0.subaddress.1
 
   pub first-not-mode : is_mode first ≡ false
   first-not-mode = plain-mode first to_sub (sub-is to to_sub n false to-low few) ranges.1.subaddress.0 ranges.1.subaddress.1
 
+  -- the second is to the transmitter, the first to the receiver
   pub from-is : address_of second ≡ from
   from-is = address-is from from_sub n true from-low few
 
   pub to-is : address_of first ≡ to
   to-is = address-is to to_sub n false to-low few
 
+  -- the transmitter is one terminal
   pub not-31 : from ≢ 31
   not-31 = λ same. absurd (omega (arith, same, ranges.0.address))
 
+  -- the second tells it to transmit
   pub second-transmits : is_transmit second ≡ true
   second-transmits = transmit-is from from_sub n true from-low few
 
+  -- so it is a relay's second command
   is-second : is_second_command first second ≡ true
   is-second =
       four (is_transmit second) (not (is_mode second)) (field_of second == field_of first) (not (is_broadcast second))
@@ -131,9 +147,11 @@ module _ (from from_sub to to_sub count : ℕ) (ranges : HasKindRanges (Relay fr
       (same-field (field_of second) (field_of first) n (field-is from from_sub n true few) (field-is to to_sub n false few))
       (ap not (not-all second from from-is not-31))
 
+  -- it names no other terminal
   other-address : (own : ℕ) → own ≢ from → (address_of second == own) ≡ false
   other-address own apart = let at : address_of second ≡ from = from-is in grind (arith, nat_tests, at, apart)
 
+  -- so every other terminal sees a relay
   relays : (own : ℕ) → own ≢ from → is_relay own first second ≡ true
   relays own apart =
       four (not (is_mode first)) (not (is_transmit first)) (is_second_command first second) (not (address_of second == own)) (ap not first-not-mode)
@@ -146,21 +164,25 @@ module _ (from from_sub to to_sub count : ℕ) (ranges : HasKindRanges (Relay fr
       (data_in (words_after first) (Some (command_word second) ∷ []))) (relays own apart)
       ∙ ap relay_from from-is
 
+  -- no data words follow the second command
   none-after : words_after second ≡ 0
   none-after =
       skips (is_mode second) (mode_words_after (carried (is_transmit second) (field_of second))) (if is_transmit second then 0 else word_count second)
       second-not-mode
       ∙ takes (is_transmit second) 0 (word_count second) second-transmits
 
+  -- nor does a relay begin with it
   never-relays : (own third : ℕ) → is_relay own second third ≡ false
   never-relays own third =
       ap (λ b. not (is_mode second) && not b && is_second_command second third && not (address_of third == own)) second-transmits
       ∙ second-false (not (is_mode second)) (is_second_command second third) (not (address_of third == own))
 
+  -- so it has no transmitter after it
   transmitter-none : (own : ℕ) (o : Option ℕ) → transmitter_in own second o ≡ None
   transmitter-none own None = refl
   transmitter-none own (Some third) = ap (λ (b : Bool). if b then Some (address_of third) else None) (never-relays own third)
 
+  -- whatever follows it
   second-relays-none : (own : ℕ) (slot : Option Word) (slots : List (Option Word)) → relay_in own second (slot ∷ slots) ≡ None
   second-relays-none own slot [] = transmitter-none own (command_in slot)
   second-relays-none own slot (next ∷ slots) = refl

@@ -16,10 +16,12 @@ use Rattle.bus_law_duties.specs.Ranges.{HasMemoryRanges, HasTimedLoadRanges}
 
 -- ---- what is loaded
 
+-- a memory that is loaded or not
 if-ranges : (b : Bool) (m n : Memory) → HasMemoryRanges n → HasMemoryRanges m → HasMemoryRanges (if b then n else m)
 if-ranges true m n loaded kept = loaded
 if-ranges false m n loaded kept = kept
 
+-- a load keeps the ranges
 load-ranges : (m : Memory) (sub : ℕ) (words : List ℕ) → AreWords words → HasMemoryRanges m → HasMemoryRanges (load_block m sub words)
 load-ranges m sub words fit ranges = record {
   last = ranges.last;
@@ -27,6 +29,7 @@ load-ranges m sub words fit ranges = record {
   transmit = All-set AreWords m.transmit sub words fit ranges.transmit;
 }
 
+-- all loads do
 pub loads-ranges : (address now : ℕ) (loads : List TimedLoad) (m : Memory) → All HasTimedLoadRanges loads → HasMemoryRanges m →
     HasMemoryRanges (with_loads address now loads m)
 loads-ranges address now [] m fit ranges = ranges
@@ -38,6 +41,7 @@ loads-ranges address now (load ∷ loads) m fit ranges =
 
 -- ---- what is sent
 
+-- a word of sixteen bits
 abbrev IsWord : ℕ → Type 0
 IsWord w = w < 65536
 
@@ -46,6 +50,7 @@ pub record AreSendable (words : List ℕ) : Type 0 where
   pub fit : AreWords words
   pub few : length words ≤ 32
 
+-- no words, and one word
 pub none-sendable : AreSendable []
 none-sendable = record { fit = All-nil IsWord; few = omega arith }
 
@@ -59,21 +64,25 @@ block-fits blocks sub fit = elim (cases_lt sub (length blocks)) [
   | inr past ↦ subst AreWords (sym (get_or_past blocks sub [] past)) (All-nil IsWord)
 ]
 
+-- words by a choice
 if-fit : (b : Bool) (xs ys : List ℕ) → AreWords xs → AreWords ys → AreWords (if b then xs else ys)
 if-fit true xs ys first second = first
 if-fit false xs ys first second = second
 
+-- what a subaddress sends
 sending-fits : (memory : Memory) (sub : ℕ) → HasMemoryRanges memory → AreWords (sending_on memory sub)
 sending-fits memory sub ranges =
     if-fit (sub == wrap_around) (received_on memory sub) (get_or memory.transmit sub []) (block-fits memory.received sub ranges.received)
     (block-fits memory.transmit sub ranges.transmit)
 
+-- a word count is 32 at most
 count-few : (bits : ℕ) → word_count bits ≤ 32
 count-few bits = elim (cases_eq (field_of bits) 0) [
   | inl none ↦ grind (arith, nat_tests, none)
   | inr some ↦ grind (arith, nat_tests, some)
 ]
 
+-- the first words of a block, filled up with 0
 filled-sendable : (count : ℕ) (words : List ℕ) → count ≤ 32 → AreWords words → AreSendable (filled count words)
 filled-sendable count words few fit = record {
   fit = All-take IsWord count (words ++ replicate count 0)
@@ -82,10 +91,12 @@ filled-sendable count words few fit = record {
       = length-take count (words ++ replicate count 0) in omega (arith, long, few);
 }
 
+-- an answer by a choice
 if-sendable : (b : Bool) (xs ys : List ℕ) → AreSendable xs → AreSendable ys → AreSendable (if b then xs else ys)
 if-sendable true xs ys first second = first
 if-sendable false xs ys first second = second
 
+-- the data words of the answer to a legal command
 pub data-sendable : (terminal : TerminalData) (memory : Memory) (command : ℕ) → HasTerminalRanges terminal → HasMemoryRanges memory →
     AreSendable (answer_data terminal memory command)
 data-sendable terminal memory command planned ranges =

@@ -21,7 +21,7 @@ use Rattle.bus_law_duties.specs.Duties.{AreApart, AtMostOneOwes, AreFree, IsOnly
 use Rattle.bus_law_duties.proofs.Fields.{to-all}
 use Rattle.bus_law_duties.proofs.Kept.{OwesStatus, kept-owes, kept-promises}
 use Rattle.bus_law_duties.proofs.Obeys.{after, Obeys, obeys-or-not}
-use Rattle.bus_law_duties.proofs.OneOwes.{owed-is, not-owed, no-answer, pairs-map}
+use Rattle.bus_law_duties.proofs.OneOwes.{stations-apart, owed-is, not-owed, no-answer, pairs-map}
 use Rattle.bus_law_duties.proofs.Owes.{free-owes}
 use Rattle.bus_law_duties.proofs.Promised.{free-promises, who-promises}
 use Rattle.bus_law_duties.proofs.Relayed.{first, to-is}
@@ -38,6 +38,7 @@ module _ (k : ℕ) (loads : List TimedLoad) (answer : ShownBurst) (station : Pre
     pub owed : OwesStatus station.plan.terminal command (keep_promise station.plan.terminal (memory_at k loads answer station) answer.channel command
         transmitter answer.slots answer.rest) words acceptance
 
+  -- so whoever owes something promised before
   pub owes-promised : (duty : Duty) (words : List Word) (acceptance : Bool) → (after_answer_of k loads answer station duty).duty ≡ owes words acceptance →
       Promised duty words acceptance
   owes-promised free words acceptance is = absurd (free-owes words acceptance is)
@@ -50,6 +51,7 @@ module _ (k : ℕ) (loads : List TimedLoad) (answer : ShownBurst) (station : Pre
         (relayed (word_count command) transmitter answer.slots answer.rest) words acceptance is;
   }
 
+  -- nothing is promised
   none-promises : (duty : Duty) (command transmitter : ℕ) → (after_answer_of k loads answer station duty).duty ≡ promises command transmitter → ⊥
   none-promises free command transmitter is = free-promises command transmitter is
   none-promises (owes others accepted) command transmitter is = free-promises command transmitter is
@@ -57,11 +59,13 @@ module _ (k : ℕ) (loads : List TimedLoad) (answer : ShownBurst) (station : Pre
       kept-promises station.plan.terminal (memory_at k loads answer station) answer.channel promised
       (relayed (word_count promised) from answer.slots answer.rest) command transmitter is
 
+  -- without a promise the station stays as it was
   pub by-duty : (duty : Duty) → is_promise duty ≡ false → after_answer_of k loads answer station duty ≡ unmoved station
   by-duty free none = refl
   by-duty (owes words acceptance) none = refl
   by-duty (promises command transmitter) none = absurd (true≢false none)
 
+-- a duty that is no promise
 no-promise : (duty : Duty) → ((command transmitter : ℕ) → duty ≡ promises command transmitter → ⊥) → is_promise duty ≡ false
 no-promise free none = refl
 no-promise (owes words acceptance) none = refl
@@ -72,6 +76,7 @@ pub none-stands : (k : ℕ) (loads : List TimedLoad) (answer : ShownBurst) (befo
 none-stands k loads answer before =
     no-promise (after_answer k loads answer before).duty (none-promises k loads answer before.station before.duty)
 
+-- a station without a promise stays as it was
 pub others-stay : (k : ℕ) (loads : List TimedLoad) (answer : ShownBurst) (before : After) → is_promise before.duty ≡ false →
     after_answer k loads answer before ≡ unmoved before.station
 others-stay k loads answer before none = by-duty k loads answer before.station before.duty none
@@ -101,6 +106,7 @@ record HasPromised (kind : Kind) (before : After) : Type 0 where
   low : address_of_station before.station ≤ 31
   receiver : IsOnlyReceiver kind (address_of_station before.station)
 
+-- what it owes then is its status alone
 owes-answer : (k : ℕ) (loads : List TimedLoad) (answer : ShownBurst) (kind : Kind) (before : After) (words : List Word) (acceptance : Bool) →
     (after_answer k loads answer before).duty ≡ owes words acceptance →
     ((command transmitter : ℕ) → before.duty ≡ promises command transmitter → is_broadcast command ≡ false → HasPromised kind before) →
@@ -118,23 +124,27 @@ owes-answer k loads answer kind before words acceptance is promised =
       accepted = p.owed.acceptance_is;
     })
 
+-- a relay has one such receiver
 same-receiver : (kind : Kind) (own other : ℕ) → IsOnlyReceiver kind own → IsOnlyReceiver kind other → own ≡ other
 same-receiver (Receive to sub words) own other first second = absurd first
 same-receiver (Transmit from sub count) own other first second = absurd first
 same-receiver (Relay from from_sub to to_sub count) own other first second = sym first.2 ∙ second.2
 same-receiver (Mode to mode_sub transmit code word) own other first second = absurd first
 
+-- and none where no second answer is expected
 no-receiver : (kind : Kind) (own : ℕ) → (answers_of kind).second ≡ None → IsOnlyReceiver kind own → ⊥
 no-receiver (Receive to sub words) own none is = is
 no-receiver (Transmit from sub count) own none is = is
 no-receiver (Relay from from_sub to to_sub count) own none is = is.0 (sym is.2 ∙ no-answer to 0 none)
 no-receiver (Mode to mode_sub transmit code word) own none is = is
 
+-- one function after another
 map-map : {X Y Z : Type 0} (g : Y → Z) (f : X → Y) (xs : List X) → map g (map f xs) ≡ map (λ x. g (f x)) xs
 map-map g f [] = refl
 map-map g f (x ∷ xs) = ap (λ ys. g (f x) ∷ ys) (map-map g f xs)
 
 module _ (k : ℕ) (loads : List TimedLoad) (c : Channel) (start : ℕ) (hits : List Hit) (item : ItemData) (answer : ShownBurst) where
+  -- a station after the command, and after the answer
   abbrev after-of : Present → After
   after-of station = after k loads c start hits item station
 
@@ -149,6 +159,7 @@ module _ (k : ℕ) (loads : List TimedLoad) (c : Channel) (start : ℕ) (hits : 
   moved-by station command transmitter is (inr (order, obeys)) =
       (ap (λ (a : After). a.station.serves) obeys.is ∙ obeys.serves, ap (λ (a : After). address_of_station a.station) obeys.is)
 
+  -- a station that promised, and owes something
   has-promised : (station : Present) → HasKindRanges item.kind → address_of_station station ≤ 31 → (command transmitter : ℕ) →
       (after-of station).duty ≡ promises command transmitter → is_broadcast command ≡ false → HasPromised item.kind (after-of station)
   has-promised station ranges low command transmitter is one =
@@ -160,6 +171,7 @@ module _ (k : ℕ) (loads : List TimedLoad) (c : Channel) (start : ℕ) (hits : 
             (who-promises k loads c start hits item station command transmitter ranges is) one);
       }
 
+  -- so what a station owes after an answer
   pub who-owes-answer : (station : Present) (words : List Word) (acceptance : Bool) → HasKindRanges item.kind → address_of_station station ≤ 31 →
       (settled-of station).duty ≡ owes words acceptance → OwesToAnswer item.kind (settled-of station) acceptance words
   who-owes-answer station words acceptance ranges low is =
@@ -173,6 +185,7 @@ module _ (k : ℕ) (loads : List TimedLoad) (c : Channel) (start : ℕ) (hits : 
       only-receiver item.kind (address_of_station station) p.command p.transmitter (struck hits (command_words item.kind)) ranges
       (who-promises k loads c start hits item station p.command p.transmitter ranges p.was) p.owed.one
 
+  -- so of stations that are apart at most one owes
   pub one-owes-answer : (stations : List Present) → HasKindRanges item.kind → AreApart stations →
       AtMostOneOwes (map (after_answer k loads answer) (map after-of stations))
   one-owes-answer stations ranges apart =
@@ -183,10 +196,11 @@ module _ (k : ℕ) (loads : List TimedLoad) (c : Channel) (start : ℕ) (hits : 
       let one = owed-is (settled-of a).duty first in
       let two = owed-is (settled-of b).duty second in
       differ (same-receiver item.kind (address_of_station a) (address_of_station b) (receiver-owes a one.0 one.1 ranges one.2)
-      (receiver-owes b two.0 two.1 ranges two.2)))) apart)
+      (receiver-owes b two.0 two.1 ranges two.2)))) (stations-apart stations apart))
 
   -- ---- where no second answer is expected
 
+  -- a station's duty where no second answer is expected
   free-by : HasKindRanges item.kind → (answers_of item.kind).second ≡ None → (station : Present) (duty : Duty) → (settled-of station).duty ≡ duty → duty ≡ free
   free-by ranges none station free is = refl
   free-by ranges none station (owes words acceptance) is =
@@ -194,6 +208,7 @@ module _ (k : ℕ) (loads : List TimedLoad) (c : Channel) (start : ℕ) (hits : 
   free-by ranges none station (promises command transmitter) is =
       absurd (true≢false (sym (ap is_promise is) ∙ none-stands k loads answer (after-of station)))
 
+  -- so nobody owes anything there
   pub none-owes-answer : (stations : List Present) → HasKindRanges item.kind → (answers_of item.kind).second ≡ None →
       AreFree (map (after_answer k loads answer) (map after-of stations))
   none-owes-answer stations ranges none =

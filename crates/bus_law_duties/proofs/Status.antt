@@ -7,6 +7,7 @@ use Rattle.bus_formats.specs.Plans.{TerminalData}
 use Rattle.bus_formats.specs.declared.log.Registers.{Registers}
 use Rattle.bus_model.specs.Memory.{status_of}
 
+-- its place values, summed up
 pub status-address : (terminal : TerminalData) (registers : Registers) (acceptance : Bool) → terminal.address ≤ 31 →
     (status_of terminal registers acceptance < 65536) × (address_of (status_of terminal registers acceptance) ≡ terminal.address)
 status-address terminal registers acceptance low =

@@ -19,27 +19,32 @@ added-left (word ∷ words) (slot ∷ slots) added = (
   added-left words slots (All-tail (λ s. s ≡ added_slot) slot slots added),
 )
 
+-- slots with added words after them
 append-left : (words : List Word) (slots more : List (Option Word)) → AreLeftOf words slots → ((others : List Word) → AreLeftOf others more) →
     AreLeftOf words (slots ++ more)
 append-left words [] more left later = later words
 append-left [] (slot ∷ slots) more left later = (left.0, append-left [] slots more left.1 later)
 append-left (word ∷ words) (slot ∷ slots) more left later = (left.0, append-left words slots more left.1 later)
 
+-- the first of them
 take-left : (n : ℕ) (words : List Word) (slots : List (Option Word)) → AreLeftOf words slots → AreLeftOf words (take n slots)
 take-left zero words slots left = tt
 take-left (suc n) words [] left = tt
 take-left (suc n) [] (slot ∷ slots) left = (left.0, take-left n [] slots left.1)
 take-left (suc n) (word ∷ words) (slot ∷ slots) left = (left.0, take-left n words slots left.1)
 
+-- a word that is spoiled or not
 spoiled-or-not : (b : Bool) (word : Word) → ((if b then None else Some word) ≡ Some word) ⊎ ((if b then None else Some word) ≡ None)
     ⊎ ((if b then None else Some word) ≡ added_slot)
 spoiled-or-not true word = inr (inl refl)
 spoiled-or-not false word = inl refl
 
+-- so with all words
 spoiled-left : (hits : List Hit) (n : ℕ) (words : List Word) → AreLeftOf words (spoiled hits n words)
 spoiled-left hits n [] = tt
 spoiled-left hits n (word ∷ words) = (spoiled-or-not (list_any (spoils n) hits) word, spoiled-left hits (n + 1) words)
 
+-- cuts keep the first of them
 cut-left : (hits : List Hit) (words : List Word) (slots : List (Option Word)) → AreLeftOf words slots → AreLeftOf words (cut_by hits slots)
 cut-left [] words slots left = left
 cut-left (Flip word set ∷ hits) words slots left = cut-left hits words slots left

@@ -1,5 +1,5 @@
 -- What terminals owe and promise after a command, and after the answer to it (remote terminal operation 4.4.3, message formats 4.3.3.6).
-use Rattle.std.specs.Prelude.{◌≡◌, ◌≢◌, ◌⊎◌, ℕ, ◌<◌, ◌≤◌, ◌%◌, Bool, true, false, List, [], length, All, AllPairs, Contains, Option}
+use Rattle.std.specs.Prelude.{◌≡◌, ◌≢◌, ◌⊎◌, ℕ, ◌<◌, ◌≤◌, ◌%◌, Bool, true, false, List, [], length, map, All, AllPairs, Contains, Option}
 use Rattle.bus_words.specs.Fields.{address_of, command_bits}
 use Rattle.bus_words.specs.declared.word.Word.{Word}
 use Rattle.bus_formats.specs.Accepted.{AreWords, addresses_named}
@@ -18,7 +18,7 @@ use Rattle.bus_law_duties.specs.Words.{whole_slots, with_data}
 
 -- no two stations have one address
 abbrev pub AreApart : List Present → Type 0
-AreApart stations = AllPairs (λ a b. address_of_station a ≢ address_of_station b) stations
+AreApart stations = AllPairs (λ a b. a ≢ b) (map address_of_station stations)
 
 -- at most one terminal owes an answer
 abbrev pub AtMostOneOwes : List After → Type 0

@@ -1,6 +1,6 @@
 //! What terminals owe after an answer, which may be struck by any hits.
 
-ghost use Rattle.std.specs.Prelude.{◌≡◌, ◌≢◌, ◌≤◌, ℕ, Bool, false, List, map, None};
+ghost use Rattle.std.specs.Prelude.{◌≡◌, ◌≢◌, ◌≤◌, ℕ, Bool, true, false, List, map, All, Contains, Some, None};
 ghost use Rattle.bus_base.specs.declared.samples.Channel.{Channel};
 ghost use Rattle.bus_words.specs.Fields.{address_of};
 ghost use Rattle.bus_words.specs.declared.word.Word.{Word};
@@ -9,10 +9,10 @@ ghost use Rattle.bus_formats.specs.Forms.{answers_of};
 ghost use Rattle.bus_formats.specs.Plans.{ItemData};
 ghost use Rattle.bus_formats.specs.declared.fault.Hit.{Hit};
 ghost use Rattle.bus_model.specs.Memory.{TimedLoad};
-ghost use Rattle.bus_model.specs.Message.{Present, address_of_station, After, unmoved, after_command, after_answer, command_burst};
+ghost use Rattle.bus_model.specs.Message.{Present, address_of_station, After, unmoved, after_command, after_answer, after_silence, answer_for, answer_to, command_burst};
 ghost use Rattle.bus_model.specs.Orders.{owes, last_order};
-ghost use Rattle.bus_model.specs.Standing.{is_promise};
-ghost use Rattle.bus_model.specs.Strikes.{struck, ShownBurst};
+ghost use Rattle.bus_model.specs.Standing.{is_owed, is_promise};
+ghost use Rattle.bus_model.specs.Strikes.{struck, ShownBurst, Answer};
 ghost use Rattle.bus_law_duties.specs.Words.{with_data};
 ghost use Rattle.bus_law_duties.specs.Duties.{AreApart, AtMostOneOwes, AreFree, OwesToAnswer};
 
@@ -34,6 +34,21 @@ pub fn who_owes_after_an_answer()
         is_promise (after_answer k loads answer after).duty ≡ false }
     ensures others { (k : ℕ) (loads : List TimedLoad) (answer : ShownBurst) (after : After) → is_promise after.duty ≡ false →
         after_answer k loads answer after ≡ unmoved after.station }
+{}
+
+/// Where no answer to a command is shown, nobody owes or promises anything any longer.
+pub fn nobody_owes_after_silence()
+    ensures { (k : ℕ) (loads : List TimedLoad) (command : ShownBurst) (afters : List After) → AreFree (map (after_silence k loads command) afters) }
+{}
+
+/// The answer to a burst is what a terminal owes to it, and none where nobody owes one; and where at most one owes an answer, it is that of the one
+/// that does.
+pub fn the_answer_is_what_is_owed()
+    ensures found { (burst : ShownBurst) (afters : List After) (answer : Answer) → answer_to burst afters ≡ Some answer →
+        (after : After) × Contains afters after × (answer_for burst after after.duty ≡ Some answer) }
+    ensures none { (burst : ShownBurst) (afters : List After) → answer_to burst afters ≡ None → All (λ after. is_owed after.duty ≡ false) afters }
+    ensures only { (burst : ShownBurst) (afters : List After) (after : After) → AtMostOneOwes afters → Contains afters after →
+        is_owed after.duty ≡ true → answer_to burst afters ≡ answer_for burst after after.duty }
 {}
 
 /// An answer, a status with data words, is a command for no terminal but its own.

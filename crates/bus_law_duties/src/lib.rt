@@ -10,7 +10,10 @@ pub mod commands;
 pub mod offers;
 pub mod slots;
 
-pub use answers::{an_answer_is_no_command, who_owes_after_an_answer};
+pub use answers::{
+    an_answer_is_no_command, nobody_owes_after_silence, the_answer_is_what_is_owed,
+    who_owes_after_an_answer,
+};
 pub use commands::{
     a_struck_command_is_for_nobody, who_owes_after_a_command, who_promises_after_a_command,
 };
