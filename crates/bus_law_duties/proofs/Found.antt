@@ -141,9 +141,13 @@ unaddressed own status data_words slots other left (inl none) = none
 unaddressed own status data_words slots other left (inr found) =
     absurd (true≢false (sym (one-found own status data_words slots found.0 left found.1).0.is ∙ other))
 
+pub left-unaddressed : (status own : ℕ) (data_words : List ℕ) (slots : List (Option Word)) → address_of status ≢ own → address_of status ≢ 31 →
+    AreLeftOf (with_data status data_words) slots → last_order own slots ≡ None
+left-unaddressed status own data_words slots apart one left =
+    unaddressed own status data_words slots (not-for own status apart one) left (cases-option (last_order own slots))
+
 -- so with any hits
 pub answer-unaddressed : (hits : List Hit) (status own : ℕ) (data_words : List ℕ) → address_of status ≢ own → address_of status ≢ 31 →
     last_order own (struck hits (with_data status data_words)) ≡ None
 answer-unaddressed hits status own data_words apart one =
-    let slots = struck hits (with_data status data_words) in
-    unaddressed own status data_words slots (not-for own status apart one) (struck-left hits (with_data status data_words)) (cases-option (last_order own slots))
+    left-unaddressed status own data_words (struck hits (with_data status data_words)) apart one (struck-left hits (with_data status data_words))

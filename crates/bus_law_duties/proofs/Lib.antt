@@ -14,3 +14,4 @@ pub mod Kept
 pub mod Settled
 pub mod Offered
 pub mod Answering
+pub mod Stays

@@ -27,7 +27,7 @@ append-left [] (slot ∷ slots) more left later = (left.0, append-left [] slots 
 append-left (word ∷ words) (slot ∷ slots) more left later = (left.0, append-left words slots more left.1 later)
 
 -- the first of them
-take-left : (n : ℕ) (words : List Word) (slots : List (Option Word)) → AreLeftOf words slots → AreLeftOf words (take n slots)
+pub take-left : (n : ℕ) (words : List Word) (slots : List (Option Word)) → AreLeftOf words slots → AreLeftOf words (take n slots)
 take-left zero words slots left = tt
 take-left (suc n) words [] left = tt
 take-left (suc n) [] (slot ∷ slots) left = (left.0, take-left n [] slots left.1)

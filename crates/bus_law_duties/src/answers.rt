@@ -1,6 +1,6 @@
-//! What terminals owe after an answer, which may be struck by any hits.
+//! What a burst leaves of a station, and what terminals owe after an answer, which may be struck by any hits.
 
-ghost use Rattle.std.specs.Prelude.{◌≡◌, ◌≢◌, ◌≤◌, ℕ, Bool, true, false, List, map, All, Contains, Some, None};
+ghost use Rattle.std.specs.Prelude.{◌≡◌, ◌≢◌, ◌≤◌, ℕ, Bool, true, false, List, map, All, Contains, Option, Some, None};
 ghost use Rattle.bus_base.specs.declared.samples.Channel.{Channel};
 ghost use Rattle.bus_words.specs.Fields.{address_of};
 ghost use Rattle.bus_words.specs.declared.word.Word.{Word};
@@ -13,8 +13,18 @@ ghost use Rattle.bus_model.specs.Message.{Present, address_of_station, After, un
 ghost use Rattle.bus_model.specs.Orders.{owes, last_order};
 ghost use Rattle.bus_model.specs.Standing.{is_owed, is_promise};
 ghost use Rattle.bus_model.specs.Strikes.{struck, ShownBurst, Answer};
-ghost use Rattle.bus_law_duties.specs.Words.{with_data};
+ghost use Rattle.bus_law_duties.specs.Words.{with_data, AreLeftOf};
 ghost use Rattle.bus_law_duties.specs.Duties.{AreApart, AtMostOneOwes, AreFree, OwesToAnswer};
+
+/// A command, the answer to it and silence after it change nothing of a station but what its terminal keeps.
+pub fn only_the_memory_of_a_station_changes()
+    ensures command { (k : ℕ) (loads : List TimedLoad) (burst : ShownBurst) (station : Present) →
+        let after : After = after_command k loads burst station in after.station ≡ record station { memory = after.station.memory } }
+    ensures answer { (k : ℕ) (loads : List TimedLoad) (burst : ShownBurst) (before : After) →
+        let after : After = after_answer k loads burst before in after.station ≡ record before.station { memory = after.station.memory } }
+    ensures silence { (k : ℕ) (loads : List TimedLoad) (burst : ShownBurst) (before : After) →
+        let after : After = after_silence k loads burst before in after.station ≡ record before.station { memory = after.station.memory } }
+{}
 
 /// After any burst that answers a command only the one receiver of a relay owes something, its status alone; so at most one terminal owes an answer, and
 /// nobody where no second answer is expected. No promise stands any longer, and a station without one stays as it is.
@@ -51,8 +61,10 @@ pub fn the_answer_is_what_is_owed()
         is_owed after.duty ≡ true → answer_to burst afters ≡ answer_for burst after after.duty }
 {}
 
-/// An answer, a status with data words, is a command for no terminal but its own.
+/// An answer, a status with data words, is a command for no terminal but its own, whatever faults leave of it.
 pub fn an_answer_is_no_command()
-    ensures { (hits : List Hit) (status own : ℕ) (data_words : List ℕ) → address_of status ≢ own → address_of status ≢ 31 →
+    ensures left { (status own : ℕ) (data_words : List ℕ) (slots : List (Option Word)) → address_of status ≢ own → address_of status ≢ 31 →
+        AreLeftOf (with_data status data_words) slots → last_order own slots ≡ None }
+    ensures struck { (hits : List Hit) (status own : ℕ) (data_words : List ℕ) → address_of status ≢ own → address_of status ≢ 31 →
         last_order own (struck hits (with_data status data_words)) ≡ None }
 {}
