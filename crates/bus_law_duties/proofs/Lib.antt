@@ -1,0 +1,17 @@
+pub mod Struck
+pub mod Fields
+pub mod Found
+pub mod Obeys
+pub mod Sent
+pub mod Owed
+pub mod Relayed
+pub mod Promised
+pub mod Status
+pub mod Owes
+pub mod RelayOwes
+pub mod OneOwes
+pub mod Kept
+pub mod Settled
+pub mod Offered
+pub mod Answering
+pub mod Stays
