@@ -96,9 +96,9 @@ tick-begins : (k : ℕ) (t : TerminalData) (loads : List TimedLoad) (s : Standin
     addressed_on k t (now ∷ past) s c ≡ mark_on s.addressed c → addressed_on k t (now ∷ past) s (other_of c) ≡ mark_on s.addressed (other_of c) →
     after_tick k t loads now past s ≡ with_sent s c (Some (length past))
 tick-begins k t loads s A now past none begun on off own other =
-    ap (λ o. marked_by k t now past s (ordered k t loads (length past) now.may s o)) none ∙ (rw (begun, on, off, own, other) refl)
+    ap (λ o. marked_by k t now past s (ordered k t loads (length past) now.has_items s o)) none ∙ (rw (begun, on, off, own, other) refl)
 tick-begins k t loads s B now past none begun on off own other =
-    ap (λ o. marked_by k t now past s (ordered k t loads (length past) now.may s o)) none ∙ (rw (begun, on, off, own, other) refl)
+    ap (λ o. marked_by k t now past s (ordered k t loads (length past) now.has_items s o)) none ∙ (rw (begun, on, off, own, other) refl)
 
 -- ---- a quiet tick on the channel of an answer that is owed
 
@@ -299,8 +299,8 @@ mute-takes k t loads memory c heard ticks now answer hears =
     let s = standing k t loads memory heard in
     let past = ticks ++ heard in
     let m = muted-mark k t loads memory c heard ticks answer (fewer k t s c heard ticks now hears) in (
-      ap (λ (u : Standing). taken_by k t loads (length past) now.may u (order_now k t (now ∷ past) u)) m.1
-          ∙ ap (taken_by k t loads (length past) now.may (with_sent s c m.0)) (nothing-handled k t s c heard m.0 ticks now answer.owes hears),
+      ap (λ (u : Standing). taken_by k t loads (length past) now.has_items u (order_now k t (now ∷ past) u)) m.1
+          ∙ ap (taken_by k t loads (length past) now.has_items (with_sent s c m.0)) (nothing-handled k t s c heard m.0 ticks now answer.owes hears),
       ap (λ (u : Standing). accepted_by k t loads (heard_on u.channel past) (sample_on now.shown u.channel) u u.duty) m.1
           ∙ ap (λ x. accepted_by k t loads (heard_on x past) (sample_on now.shown x) (with_sent s c m.0) s.duty) answer.channel
           ∙ accepts-none k t loads (heard_on c past) (sample_on now.shown c) (with_sent s c m.0) s.duty (none-ends k t s c heard ticks now hears),
