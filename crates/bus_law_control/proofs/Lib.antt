@@ -1,2 +1,4 @@
 pub mod Holding
 pub mod Muted
+pub mod Early
+pub mod Accepting

@@ -1,7 +1,7 @@
 -- An answer of which nothing is shown.
 use Rattle.std.proofs.Common.{◌≡◌, inl, inr, ℕ, zero, suc, ◌+◌, ◌-◌, ◌<◌, ◌≤◌, Bool, true, false, not, List, [], ◌∷◌, ◌++◌, length, Option, Some, None, refl, sym, ap, ◌∙◌, subst, arith}
 use Rattle.std.proofs.lemmas.Bool.{and_from, or_from, or_parts, or_right, eq-eqb, ne_eqb, le-ltb, true≢false, false_from_ne_true}
-use Rattle.std.specs.Prelude.{◌||◌, ◌&&◌, ◌==◌, nat_lt, if◌then◌else◌, is_some, is_none}
+use Rattle.std.specs.Prelude.{◌||◌, ◌==◌, nat_lt, is_some, is_none}
 use Rattle.bus_base.specs.Samples.{sample_on, other_of, same_channel}
 use Rattle.bus_base.specs.declared.samples.Channel.{Channel}
 use Rattle.bus_base.specs.declared.samples.Channel.TheVariants.{A, B}
@@ -9,8 +9,8 @@ use Rattle.bus_base.specs.declared.samples.Sample.{Sample}
 use Rattle.bus_base.specs.declared.samples.Sample.TheVariants.{Quiet}
 use Rattle.bus_base.specs.declared.samples.Drive.TheVariants.{Silent}
 use Rattle.bus_words.specs.declared.word.Word.{Word}
-use Rattle.bus_line.specs.Past.{quiet_ticks, runs, first_tick, ended_now, slot_now, slot_of, heard_within, end_since}
-use Rattle.bus_line.specs.Bursts.{IsEndSince, IsQuietAt}
+use Rattle.bus_line.specs.Past.{quiet_ticks, runs, ended_now, slot_now, heard_within, end_since}
+use Rattle.bus_line.specs.Bursts.{IsQuietAt}
 use Rattle.bus_line.proofs.EndLaws.{end_since-is, end_since-found}
 use Rattle.bus_line.proofs.HeardLaws.{heard_within-is, heard_within-from}
 use Rattle.bus_line.proofs.Legs.{length-quiet_ticks}
@@ -21,8 +21,8 @@ use Rattle.bus_model.specs.Orders.{Duty, free, owes, promises, due_after}
 use Rattle.bus_model.specs.Sending.{drive_sample}
 use Rattle.bus_model.specs.Hearing.{Moment, heard_on, is_addressed}
 use Rattle.bus_model.specs.Standing.{Standing, mark_on, superseded, ignored_from, is_owed, is_promise}
-use Rattle.bus_model.specs.Terminal.{given_up, is_over, drive_duty, heard_status, order_of, order_on, running_out, order_now, begins, addressed_on, marked_by, ordered, after_tick, standing, drives, taken_by, took_now, accepted_by, accepted_now}
-use Rattle.bus_law_stations.specs.Legs.{with_sent, IsUnheeded, AreUnheeded, BeginsAnswer}
+use Rattle.bus_model.specs.Terminal.{given_up, is_over, drive_duty, heard_status, order_of, running_out, order_now, begins, addressed_on, marked_by, ordered, after_tick, standing, drives, taken_by, took_now, accepted_by, accepted_now}
+use Rattle.bus_law_stations.specs.Legs.{with_sent, IsUnheeded, BeginsAnswer}
 use Rattle.bus_law_stations.proofs.Resting.{cases-option, heard-long, rests-quiet, ended-quiet}
 use Rattle.bus_law_stations.proofs.LegTicks.{heard-append}
 use Rattle.bus_law_stations.proofs.Ready.{same-mark, either-none, orders-none, tick-marks, not-other, three-not, three-first, order-unheeded, mark-unheeded, mark-kept, moments-append}

@@ -1,5 +1,5 @@
 -- An answer of which nothing is shown, and one that is sent on beside another burst (MIL-STD-1553B 4.4.3.2).
-use Rattle.std.specs.Prelude.{◌≡◌, ℕ, true, false, List, length}
+use Rattle.std.specs.Prelude.{◌≡◌, ℕ, false, List, length}
 use Rattle.bus_base.specs.Samples.{other_of}
 use Rattle.bus_base.specs.declared.samples.Channel.{Channel}
 use Rattle.bus_line.specs.Past.{quiet_ticks, runs}

@@ -3,7 +3,11 @@
 #![tactic(auto)]
 
 pub mod answers;
+pub mod offers;
 pub mod turns;
+pub mod waiting;
 
 pub use answers::a_mute_answer_is_over;
+pub use offers::{a_status_that_accepts_is_accepted, an_accepting_station_takes_control};
 pub use turns::{a_holder_has_heard_nothing, an_attempt_that_ended_did_so_before};
+pub use waiting::{a_controller_without_a_message_waits_for_its_start, a_message_waits_for_quiet};
