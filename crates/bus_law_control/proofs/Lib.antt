@@ -2,3 +2,5 @@ pub mod Holding
 pub mod Muted
 pub mod Early
 pub mod Accepting
+pub mod Endings
+pub mod Answered

@@ -1,3 +1,4 @@
 pub mod Answers
 pub mod Waiting
 pub mod Offers
+pub mod Abandoning

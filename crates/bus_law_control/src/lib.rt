@@ -2,11 +2,13 @@
 //! the contract of an empty function.
 #![tactic(auto)]
 
+pub mod abandoning;
 pub mod answers;
 pub mod offers;
 pub mod turns;
 pub mod waiting;
 
+pub use abandoning::{a_controller_abandons_in_its_tick, an_answer_that_is_not_abandoned_is_read};
 pub use answers::a_mute_answer_is_over;
 pub use offers::{a_status_that_accepts_is_accepted, an_accepting_station_takes_control};
 pub use turns::{a_holder_has_heard_nothing, an_attempt_that_ended_did_so_before};
