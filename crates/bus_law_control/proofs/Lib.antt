@@ -4,3 +4,4 @@ pub mod Early
 pub mod Accepting
 pub mod Endings
 pub mod Answered
+pub mod OwnChannel

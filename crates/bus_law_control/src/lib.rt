@@ -12,4 +12,7 @@ pub use abandoning::{a_controller_abandons_in_its_tick, an_answer_that_is_not_ab
 pub use answers::a_mute_answer_is_over;
 pub use offers::{a_status_that_accepts_is_accepted, an_accepting_station_takes_control};
 pub use turns::{a_holder_has_heard_nothing, an_attempt_that_ended_did_so_before};
-pub use waiting::{a_controller_without_a_message_waits_for_its_start, a_message_waits_for_quiet};
+pub use waiting::{
+    a_controller_without_a_message_waits_for_its_start, a_message_waits_for_quiet,
+    a_waiting_controller_hears_its_own_channel_alone,
+};
