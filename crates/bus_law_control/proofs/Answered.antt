@@ -57,7 +57,7 @@ module _ (k : ℕ) (station : StationData) (starts : Bool) (takes : List Take) (
       reply-running k begun.state.channel past ticks x e shows (omega (arith, since.0, long)) answered.prompt since.1
 
   -- with its end it is whole
-  reply-read : Awaits k begun (on_channel begun.state.channel past) e → (now : Pair) (ticks : List Pair) (burst : Burst) →
+  pub reply-read : Awaits k begun (on_channel begun.state.channel past) e → (now : Pair) (ticks : List Pair) (burst : Burst) →
       ShowsBurst k begun.state.channel past ticks → ended_now k (on_channel begun.state.channel (now ∷ (ticks ++ past))) ≡ Some burst →
       reply k (on_channel begun.state.channel (now ∷ (ticks ++ past))) e ≡ whole burst
   reply-read w now ticks burst shows ended =

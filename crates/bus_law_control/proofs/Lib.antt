@@ -5,3 +5,5 @@ pub mod Accepting
 pub mod Endings
 pub mod Answered
 pub mod OwnChannel
+pub mod Doubting
+pub mod Passing

@@ -4,12 +4,18 @@
 
 pub mod abandoning;
 pub mod answers;
+pub mod doubts;
 pub mod offers;
 pub mod turns;
 pub mod waiting;
 
 pub use abandoning::{a_controller_abandons_in_its_tick, an_answer_that_is_not_abandoned_is_read};
 pub use answers::a_mute_answer_is_over;
+pub use doubts::{
+    a_doubting_offerer_keeps_control_after_eighty_quiet_ticks,
+    a_doubting_offerer_yields_to_the_first_sample, a_passed_offer_gives_control,
+    a_yielding_station_hears_the_tick, an_offerer_doubts,
+};
 pub use offers::{a_status_that_accepts_is_accepted, an_accepting_station_takes_control};
 pub use turns::{a_holder_has_heard_nothing, an_attempt_that_ended_did_so_before};
 pub use waiting::{
