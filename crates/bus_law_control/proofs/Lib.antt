@@ -7,3 +7,4 @@ pub mod Answered
 pub mod OwnChannel
 pub mod Doubting
 pub mod Passing
+pub mod OtherChannel

@@ -4,6 +4,7 @@
 
 pub mod abandoning;
 pub mod answers;
+pub mod beside;
 pub mod doubts;
 pub mod offers;
 pub mod turns;
@@ -11,6 +12,10 @@ pub mod waiting;
 
 pub use abandoning::{a_controller_abandons_in_its_tick, an_answer_that_is_not_abandoned_is_read};
 pub use answers::a_mute_answer_is_over;
+pub use beside::{
+    a_burst_without_a_command_is_not_heeded, an_answer_is_sent_on_beside_a_burst,
+    an_ignored_channel_is_not_heeded,
+};
 pub use doubts::{
     a_doubting_offerer_keeps_control_after_eighty_quiet_ticks,
     a_doubting_offerer_yields_to_the_first_sample, a_passed_offer_gives_control,
