@@ -8,3 +8,5 @@ pub mod OwnChannel
 pub mod Doubting
 pub mod Passing
 pub mod OtherChannel
+pub mod Keeping
+pub mod Starting

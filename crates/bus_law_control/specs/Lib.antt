@@ -2,3 +2,4 @@ pub mod Answers
 pub mod Waiting
 pub mod Offers
 pub mod Abandoning
+pub mod Keeping

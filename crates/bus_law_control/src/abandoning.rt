@@ -1,19 +1,22 @@
 //! How a controller reads an answer, or abandons it: laws over its own channel, whatever is shown on the other one. Laws alone, each the contract
 //! of an empty function.
 
-ghost use Rattle.std.specs.Prelude.{◌≡◌, ℕ, ◌+◌, ◌<◌, Bool, List, ◌∷◌, ◌++◌, length, Some, None};
+ghost use Rattle.std.specs.Prelude.{◌≡◌, ℕ, ◌+◌, ◌<◌, Bool, false, List, ◌∷◌, ◌++◌, length, Option, Some, None};
 ghost use Rattle.bus_base.specs.declared.samples.Drive.TheVariants.{Silent};
 ghost use Rattle.bus_base.specs.declared.samples.Pair.{Pair};
+ghost use Rattle.bus_base.specs.declared.samples.Part.{Part};
 ghost use Rattle.bus_base.specs.declared.samples.Part.TheVariants.{First, Second};
+ghost use Rattle.bus_base.specs.declared.samples.Sample.{Sample};
 ghost use Rattle.bus_line.specs.Channels.{on_channel};
 ghost use Rattle.bus_line.specs.Past.{Burst, quiet, ended_now, end_of, rest_of};
 ghost use Rattle.bus_formats.specs.Forms.{answers_of};
-ghost use Rattle.bus_formats.specs.Plans.{StationData};
+ghost use Rattle.bus_formats.specs.Plans.{ItemData, StationData};
 ghost use Rattle.bus_formats.specs.Readings.{read_answer};
-ghost use Rattle.bus_formats.specs.declared.form.Outcome.TheVariants.{Abandoned};
-ghost use Rattle.bus_formats.specs.declared.form.Reading.TheVariants.{Good};
+ghost use Rattle.bus_formats.specs.declared.form.Outcome.{Outcome};
+ghost use Rattle.bus_formats.specs.declared.form.Outcome.TheVariants.{Abandoned, BadReply};
+ghost use Rattle.bus_formats.specs.declared.form.Reading.TheVariants.{Good, Ends};
 ghost use Rattle.bus_formats.specs.declared.form.Shape.{Shape};
-ghost use Rattle.bus_model.specs.Attempts.{Begun, without_words};
+ghost use Rattle.bus_model.specs.Attempts.{Begun, without_words, is_offer};
 ghost use Rattle.bus_model.specs.Controller.{first_read, second_read};
 ghost use Rattle.bus_model.specs.Course.{Take, Course, course, close, close_or_run, drive_course};
 ghost use Rattle.bus_law_stations.specs.Silence.{AreTaken, AwaitsFirst, AwaitsSecond};
@@ -62,4 +65,13 @@ pub fn an_answer_that_is_not_abandoned_is_read()
         course k station starts takes shown ≡ close_or_run c begun (length (ticks ++ past))
         (second_read k begun.entry.item shown (on_channel begun.state.channel shown) waits.status
         (read_answer begun.entry.item.kind Second burst.slots (rest_of burst))) }
+{}
+
+/// An answer that is read as the end of its message ends it so; but a bad reply to an offer leaves the offerer in doubt. At every lag.
+pub fn a_message_ends_as_its_answer_is_read()
+    ensures well { (k : ℕ) (item : ItemData) (shown : List Pair) (past : List Sample) (burst : Burst) (outcome : Outcome) (status : Option ℕ) →
+        ((part : Part) → outcome ≡ BadReply part → ⊥) →
+        first_read k item shown past burst (Ends outcome status) ≡ Some (without_words outcome status None) }
+    ensures plain { (k : ℕ) (item : ItemData) (shown : List Pair) (past : List Sample) (burst : Burst) (outcome : Outcome) (status : Option ℕ) →
+        is_offer item.kind ≡ false → first_read k item shown past burst (Ends outcome status) ≡ Some (without_words outcome status None) }
 {}

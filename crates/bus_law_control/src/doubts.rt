@@ -20,7 +20,7 @@ ghost use Rattle.bus_model.specs.Course.{Take, Course, course, close, drive_cour
 ghost use Rattle.bus_model.specs.Control.{OutsideTake, unheard, moment_of, so_far, course_after, doubts};
 ghost use Rattle.bus_law_stations.specs.Silence.{AreTaken, AwaitsFirst};
 ghost use Rattle.bus_law_stations.specs.Messages.{ShowsBurst};
-ghost use Rattle.bus_law_stations.specs.Turns.{with_moments, Serves};
+ghost use Rattle.bus_law_stations.specs.Turns.{moments_of, with_moments, TakesNothing, Serves};
 ghost use Rattle.bus_law_control.specs.Abandoning.{IsAnsweredSoon, AreKept};
 ghost use Rattle.bus_law_control.specs.Offers.{IsDoubting};
 
@@ -34,14 +34,21 @@ pub fn a_passed_offer_gives_control()
         × Serves (course_after k station starts loads outside (x ∷ past)) }
 {}
 
-/// A station that yields serves from the next tick on, and this tick is the first that its terminal hears. At every lag.
+/// A station that yields serves from the next tick on, and this tick is the first that its terminal hears: it hears the burst that begins in it
+/// from its first tick on. At every lag.
 pub fn a_yielding_station_hears_the_tick()
-    ensures { (k : ℕ) (station : StationData) (starts : Bool) (loads : List TimedLoad) (outside : List OutsideTake) (x : Pair) (past : List Pair)
+    ensures hears { (k : ℕ) (station : StationData) (starts : Bool) (loads : List TimedLoad) (outside : List OutsideTake) (x : Pair) (past : List Pair)
         (begun : Begun) (e : Ended) → let before = so_far k station starts loads outside past in let c = course_after k station starts loads outside past in
         c.holds ≡ true → course k station starts before.takes (x ∷ past) ≡ close c begun e (length past) → e.outcome ≡ Yielded →
         (so_far k station starts loads outside (x ∷ past) ≡ with_moments before (moment_of x (close c begun e (length past)) ∷ []))
         × (course_after k station starts loads outside (x ∷ past) ≡ close c begun e (length past))
         × Serves (course_after k station starts loads outside (x ∷ past)) }
+    ensures goes_on { (k : ℕ) (station : StationData) (starts : Bool) (loads : List TimedLoad) (outside : List OutsideTake) (x : Pair)
+        (past ticks : List Pair) (c : Course) → let before = so_far k station starts loads outside past in
+        course_after k station starts loads outside (x ∷ past) ≡ c → Serves c →
+        so_far k station starts loads outside (x ∷ past) ≡ with_moments before (moment_of x c ∷ []) →
+        TakesNothing k station starts loads outside (x ∷ past) ticks →
+        so_far k station starts loads outside (ticks ++ (x ∷ past)) ≡ with_moments before (moments_of c (ticks ++ x ∷ [])) }
 {}
 
 /// An offerer whose offer is answered badly doubts: its message runs on where both channels were quiet since the end of that answer. At every lag

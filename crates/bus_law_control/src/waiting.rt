@@ -1,6 +1,7 @@
 //! When a controller starts nothing, and how one waits for an answer. Laws alone, each the contract of an empty function.
 
-ghost use Rattle.std.specs.Prelude.{◌≡◌, ◌⊎◌, ℕ, ◌+◌, ◌<◌, ◌≤◌, Bool, List, ◌∷◌, ◌++◌, length, Some, None};
+ghost use Rattle.std.specs.Prelude.{◌≡◌, ◌⊎◌, ℕ, suc, ◌+◌, ◌<◌, ◌≤◌, Bool, List, ◌∷◌, ◌++◌, length, Some, None};
+ghost use Rattle.bus_base.specs.Samples.{other_of};
 ghost use Rattle.bus_base.specs.declared.samples.Channel.{Channel};
 ghost use Rattle.bus_base.specs.declared.samples.Drive.TheVariants.{Silent};
 ghost use Rattle.bus_base.specs.declared.samples.Pair.{Pair};
@@ -9,11 +10,12 @@ ghost use Rattle.bus_line.specs.Past.{InLeg, quiet, quiet_ticks};
 ghost use Rattle.bus_line.specs.Channels.{on_channel, quiet_both};
 ghost use Rattle.bus_formats.specs.Plans.{StationData};
 ghost use Rattle.bus_formats.specs.Times.{no_response};
-ghost use Rattle.bus_formats.specs.declared.form.Outcome.TheVariants.{NoResponse};
+ghost use Rattle.bus_formats.specs.declared.form.Outcome.TheVariants.{Abandoned, NoResponse};
 ghost use Rattle.bus_model.specs.Attempts.{Begun, without_words};
-ghost use Rattle.bus_model.specs.Starts.{usual};
-ghost use Rattle.bus_model.specs.Course.{Take, Course, course, close, drive_course};
+ghost use Rattle.bus_model.specs.Starts.{Entry, usual};
+ghost use Rattle.bus_model.specs.Course.{Take, Course, course, take_control, close, drive_course};
 ghost use Rattle.bus_law_stations.specs.Silence.{AreTaken, AwaitsFirst, AwaitsSecond};
+ghost use Rattle.bus_law_stations.specs.Messages.{BeginsMessage, message_begun};
 ghost use Rattle.bus_law_control.specs.Waiting.{StartsLater, StartedNone};
 
 /// Whatever is shown, nothing changes of a controller of which no message runs before its next one starts, and it sends nothing. At every lag.
@@ -61,4 +63,19 @@ pub fn a_waiting_controller_hears_its_own_channel_alone()
         (w : AwaitsSecond k begun (on_channel begun.state.channel past) e) → on_channel begun.state.channel (x ∷ ticks) ≡ quiet_ticks (length (x ∷ ticks)) →
         length past + length ticks ≡ e + no_response → course k station starts takes ((x ∷ ticks) ++ past)
         ≡ close c begun (without_words (NoResponse Second) (Some w.status) None) (length (ticks ++ past)) }
+{}
+
+/// A station that took control starts its first message in the tick that it was given, and none before. At every lag.
+pub fn a_station_that_took_control_starts_in_its_tick()
+    ensures later { (first : ℕ) (c : Course) (past : List Pair) → length past < first → StartsLater (take_control first c) past }
+    ensures begins { (first : ℕ) (c : Course) (past : List Pair) (entry : Entry) (later : List Entry) → c.runs ≡ None → c.left ≡ entry ∷ later →
+        length past ≡ first → BeginsMessage (take_control first c) past entry }
+{}
+
+/// After a message that was abandoned the next one starts at once, on the other channel, as a first attempt. At every lag.
+pub fn an_abandoned_message_is_superseded_at_once()
+    ensures { (c : Course) (begun : Begun) (tick : ℕ) (past : List Pair) (entry : Entry) (later : List Entry) →
+        let after : Course = close c begun (without_words Abandoned None None) tick in after.left ≡ entry ∷ later → length past ≡ suc tick →
+        BeginsMessage after past entry
+        × ((message_begun after entry (length past)).state ≡ record { channel = other_of begun.state.channel; turn = 1 }) }
 {}
