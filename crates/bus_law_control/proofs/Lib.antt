@@ -1,0 +1,12 @@
+pub mod Holding
+pub mod Muted
+pub mod Early
+pub mod Accepting
+pub mod Endings
+pub mod Answered
+pub mod OwnChannel
+pub mod Doubting
+pub mod Passing
+pub mod OtherChannel
+pub mod Keeping
+pub mod Starting

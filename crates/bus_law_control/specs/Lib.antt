@@ -1,0 +1,5 @@
+pub mod Answers
+pub mod Waiting
+pub mod Offers
+pub mod Abandoning
+pub mod Keeping

@@ -1,0 +1,4 @@
+pub mod Members
+pub mod Ordered
+pub mod Found
+pub mod Words
