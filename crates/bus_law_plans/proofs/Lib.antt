@@ -1,0 +1,10 @@
+mod Lists
+mod Agendas
+mod FirstRun
+pub mod Messages
+pub mod Struck
+pub mod Answered
+pub mod Passing
+pub mod Stations
+pub mod Taking
+pub mod NextRun
