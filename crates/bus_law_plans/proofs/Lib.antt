@@ -8,3 +8,8 @@ pub mod Passing
 pub mod Stations
 pub mod Taking
 pub mod NextRun
+pub mod Kept
+pub mod Fits
+pub mod Promised
+pub mod Nexts
+pub mod Ranged

@@ -109,3 +109,22 @@ pub order-found : (own : ℕ) (Q : ℕ → Type 0) (slots : List (Option Word)) 
 order-found own Q [] all order is = absurd (none-some order is)
 order-found own Q (slot ∷ slots) all order is =
     found-later own Q slot slots order all.0 (last_order own slots) (order-found own Q slots all.1 order) is
+
+-- ---- the words after it
+
+with-tail : (Q : Option Word → Type 0) (command : Option ℕ) (slots : List (Option Word)) (order : Order) → Each Q slots → order_with command slots ≡ Some order →
+    Each Q order.tail
+with-tail Q None slots order all is = absurd (none-some order is)
+with-tail Q (Some c) slots order all is = subst (λ (o : Order). Each Q o.tail) (same_Some _ order is) all
+
+tail-later : (Q : Option Word → Type 0) (own : ℕ) (slot : Option Word) (slots : List (Option Word)) (order : Order) → Each Q slots → (later : Option Order) →
+    (later ≡ Some order → Each Q order.tail) → option_or later (order_with (command_for own slot) slots) ≡ Some order → Each Q order.tail
+tail-later Q own slot slots order all None rest is = with-tail Q (command_for own slot) slots order all is
+tail-later Q own slot slots order all (Some other) rest is = rest is
+
+-- what holds of each slot holds of those after the command
+pub tail-each : (Q : Option Word → Type 0) (own : ℕ) (slots : List (Option Word)) → Each Q slots → (order : Order) → last_order own slots ≡ Some order →
+    Each Q order.tail
+tail-each Q own [] all order is = absurd (none-some order is)
+tail-each Q own (slot ∷ slots) all order is =
+    tail-later Q own slot slots order all.1 (last_order own slots) (tail-each Q own slots all.1 order) is

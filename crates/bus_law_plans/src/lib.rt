@@ -2,5 +2,7 @@
 #![tactic(auto)]
 
 pub mod entries;
+pub mod memories;
 
 pub use entries::{an_attempt_keeps_its_plan, the_first_run_is_of_its_plan};
+pub use memories::memories_keep_word_ranges;
