@@ -13,3 +13,4 @@ pub mod Fits
 pub mod Promised
 pub mod Nexts
 pub mod Ranged
+pub mod Agreed
