@@ -48,7 +48,8 @@ module _ (terminal : TerminalData) (memory : Memory) (c : Channel) (command : �
   abbrev OwesSo : Obeyed → Type 0
   OwesSo o = Owed Is o.duty
 
-  by-answer : (registers : Registers) (acceptance : Bool) (words : List ℕ) → IsData terminal memory command words → (acceptance ≡ true → may ≡ true) →
+  -- an answer is so
+  pub by-answer : (registers : Registers) (acceptance : Bool) (words : List ℕ) → IsData terminal memory command words → (acceptance ≡ true → may ≡ true) →
       Owed Is (answer terminal registers c command acceptance words)
   by-answer registers acceptance words is allowed =
       either (Owed Is) (is_broadcast command || is_off registers c) free

@@ -14,3 +14,10 @@ pub mod Promised
 pub mod Nexts
 pub mod Ranged
 pub mod Agreed
+pub mod Sized
+pub mod Ticked
+pub mod Seconds
+pub mod Growing
+pub mod Shown
+pub mod Bounded
+pub mod EachRun

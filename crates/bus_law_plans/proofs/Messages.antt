@@ -1,5 +1,5 @@
 -- What a message of the table leaves of each station, by whether an answer to its command is shown.
-use Rattle.std.proofs.Common.{◌≡◌, ℕ, List, [], ◌∷◌, map, Option, Some, None, refl, ◌∙◌}
+use Rattle.std.proofs.Common.{◌≡◌, ◌++◌, ℕ, List, [], ◌∷◌, map, Option, Some, None, refl, ◌∙◌}
 use Rattle.std.specs.List.{AllByRecursion as Each, AllZip}
 use Rattle.bus_base.specs.declared.samples.Channel.{Channel}
 use Rattle.bus_base.specs.declared.samples.Part.TheVariants.{Command, First, Second}
@@ -9,7 +9,7 @@ use Rattle.bus_model.specs.Memory.{TimedLoad}
 use Rattle.bus_model.specs.Orders.{Duty, free, owes, promises, Order}
 use Rattle.bus_model.specs.Strikes.{ShownBurst, burst_end, ShownAnswer, shown_answer, hits_on}
 use Rattle.bus_model.specs.Endings.{ending_of}
-use Rattle.bus_model.specs.Message.{Present, After, command_burst, after_command, after_command_of, after_answer, after_answer_of, after_silence, after_silence_of, answer_to, message, message_obeyed}
+use Rattle.bus_model.specs.Message.{Present, After, command_burst, after_command, after_command_of, after_answer, after_answer_of, after_silence, after_silence_of, answer_to, abandoned_bursts, answer_bursts, message, message_obeyed}
 use Rattle.bus_law_plans.proofs.Lists.{either}
 
 zip-settled : (R : Present → Present → Type 0) (f : After → After) (g : Present → After) (stations : List Present) →
@@ -65,6 +65,18 @@ module _ (k : ℕ) (loads : List TimedLoad) (faults : List Fault) (n : ℕ) (ite
   pub ending-is : (message k loads faults n item on channel start stations).ending ≡ ending_of k item (burst_end told) replied (second-of replied)
   unfolding message
   ending-is = ending-by replied
+
+  bursts-by : (shown : Option ShownAnswer) →
+      (message_obeyed k loads faults n item on told ordered shown).bursts
+      ≡ abandoned_bursts on told ++ (told ∷ answer_bursts (message_obeyed k loads faults n item on told ordered shown).ending.runs_on shown (second-of shown))
+  bursts-by None = refl
+  bursts-by (Some answer) = refl
+
+  -- and so are its bursts
+  pub bursts-are : (message k loads faults n item on channel start stations).bursts
+      ≡ abandoned_bursts on told ++ (told ∷ answer_bursts (message k loads faults n item on channel start stations).ending.runs_on replied (second-of replied))
+  unfolding message
+  bursts-are = bursts-by replied
 
 -- ---- a message changes of a station what its terminal keeps, and nothing else
 

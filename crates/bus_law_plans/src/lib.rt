@@ -2,9 +2,11 @@
 #![tactic(auto)]
 
 pub mod amounts;
+pub mod bounds;
 pub mod entries;
 pub mod memories;
 
 pub use amounts::an_agenda_has_so_many_attempts;
-pub use entries::{an_attempt_keeps_its_plan, the_first_run_is_of_its_plan};
+pub use bounds::a_run_keeps_its_bounds;
+pub use entries::entries_are_of_the_plan;
 pub use memories::memories_keep_word_ranges;
