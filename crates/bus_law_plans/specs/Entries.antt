@@ -1,0 +1,50 @@
+-- What holds of the stations in each run of an accepted plan: what is left of their agendas, and who serves (the project's own).
+use Rattle.std.specs.Prelude.{◌≡◌, ℕ, Bool, not, ◌==◌, List, map, drop, Contains, None, IsSome, IsSomeAnd}
+use Rattle.std.specs.List.{AllByRecursion as Each, AllZip}
+use Rattle.bus_base.specs.Samples.{other_of}
+use Rattle.bus_base.specs.declared.samples.Channel.{Channel}
+use Rattle.bus_formats.specs.Accepted.{HasItemRanges, IsSendable, Supersedes, HasSuperseding, addresses}
+use Rattle.bus_formats.specs.Plans.{ItemData, StationData, PlanData}
+use Rattle.bus_model.specs.Message.{Present}
+use Rattle.bus_model.specs.Run.{Run, next_item}
+use Rattle.bus_model.specs.Starts.{Entry, agenda, Opening, superseding, taking}
+use Rattle.bus_model.specs.Strikes.{ShownAnswer}
+
+abbrev pub items_of : List Entry → List ItemData
+items_of entries = map (λ entry. entry.item) entries
+
+-- the entry's item is within the ranges of the plan, and may be sent by the station with this address
+pub record IsEntryOf (plan : PlanData) (own : ℕ) (entry : Entry) : Type 0 where
+  pub ranges : HasItemRanges entry.item
+  pub sendable : IsSendable plan own entry.item.kind
+
+-- a station of a run is this one of the plan: what is left is a rest of its agenda, each entry of it may be sent, one that may be
+-- abandoned is followed by one that supersedes it, and the station serves or not
+pub record IsStationOf (plan : PlanData) (serving : Bool) (own : StationData) (station : Present) : Type 0 where
+  pub plan_is : station.plan ≡ own
+  pub rest : (done : ℕ) × (station.left ≡ drop done (agenda own))
+  pub entries : Each (IsEntryOf plan own.terminal.address) station.left
+  pub superseding : HasSuperseding (items_of station.left)
+  pub serves : station.serves ≡ serving
+
+-- all stations serve but the one with this address
+abbrev pub AreStationsOf : PlanData → ℕ → List StationData → List Present → Type 0
+AreStationsOf plan holder own stations = AllZip (λ o s. IsStationOf plan (not (o.terminal.address == holder)) o s) own stations
+
+-- the run is one of the plan: its stations are those of the plan in their order, the holder of control is one of them and the only one that doesn't
+-- serve, and whoever takes control has an item left
+pub record IsRunOf (plan : PlanData) (run : Run) : Type 0 where
+  pub stations : AreStationsOf plan run.holder plan.stations run.stations
+  pub holder : Contains (addresses plan) run.holder
+  pub taken : (tick : ℕ) → run.opening ≡ taking tick → IsSome (next_item run)
+
+-- the next message starts in a tick, on this channel
+abbrev pub SupersedesOn : Channel → Opening → Type 0
+SupersedesOn channel (superseding tick other) = other ≡ channel
+SupersedesOn channel _ = ⊥
+
+-- an abandoned answer runs on, and the next message, which starts at once on the other channel, is one to the terminal that sends it
+pub record IsSupersededNext (run : Run) (old : ShownAnswer) : Type 0 where
+  pub opening : SupersedesOn (other_of old.sent.channel) run.opening
+  pub retry : run.retry ≡ None
+  pub next : IsSomeAnd (next_item run) (λ next. Supersedes old.sent.address next.entry.item.kind)

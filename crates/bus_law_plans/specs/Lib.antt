@@ -1,0 +1,5 @@
+pub mod Entries
+pub mod Memories
+pub mod Amounts
+pub mod Bounds
+pub mod Sent

@@ -1,0 +1,35 @@
+-- What terminals keep in each run of an accepted plan: blocks of at most 32 words, and words of sixteen bits (MIL-STD-1553B 4.3.3.5.1.5).
+use Rattle.std.specs.Prelude.{ℕ, ◌<◌, ◌≤◌, List, length}
+use Rattle.std.specs.List.{AllByRecursion as Each}
+use Rattle.bus_formats.specs.Accepted.{AreWords}
+use Rattle.bus_formats.specs.declared.log.Registers.{Registers}
+use Rattle.bus_model.specs.Memory.{Memory, TimedLoad}
+use Rattle.bus_model.specs.Message.{Present}
+use Rattle.bus_model.specs.Run.{Run}
+
+pub record IsBlock (words : List ℕ) : Type 0 where
+  pub few : length words ≤ 32
+  pub spelled : AreWords words
+
+-- blocks that are put up for sending in the course of a run
+abbrev pub AreBlocks : List TimedLoad → Type 0
+AreBlocks loads = Each (λ load. IsBlock load.words) loads
+
+pub record HasRegisterRanges (registers : Registers) : Type 0 where
+  pub last : registers.last < 65536
+  pub sync : registers.sync_word < 65536
+
+pub record HasMemoryRanges (memory : Memory) : Type 0 where
+  pub registers : HasRegisterRanges memory.registers
+  pub received : Each IsBlock memory.received
+  pub transmit : Each IsBlock memory.transmit
+
+-- what the terminal may send beside its blocks
+pub record HasWordRanges (station : Present) : Type 0 where
+  pub memory : HasMemoryRanges station.memory
+  pub vector : station.plan.terminal.vector < 65536
+  pub bit : station.plan.terminal.bit < 65536
+  pub address : station.plan.terminal.address ≤ 31
+
+abbrev pub KeepsWordRanges : Run → Type 0
+KeepsWordRanges run = Each HasWordRanges run.stations

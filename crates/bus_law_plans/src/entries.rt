@@ -1,0 +1,20 @@
+//! Which stations and items each run of an accepted plan has. Laws alone, each the contract of an empty function.
+
+ghost use Rattle.std.specs.Prelude.{ℕ, List};
+ghost use Rattle.bus_formats.specs.Accepted.{IsAccepted};
+ghost use Rattle.bus_formats.specs.Plans.{PlanData};
+ghost use Rattle.bus_model.specs.Memory.{TimedLoad};
+ghost use Rattle.bus_model.specs.Run.{Run, first_run, attempt, attempts_after};
+ghost use Rattle.bus_law_plans.specs.Entries.{IsRunOf};
+
+/// The run of an accepted plan is one of the plan: its stations are those of the plan in their order; what is left of each is a rest of its agenda,
+/// of which each entry is within its ranges and may be sent by it, and one that may be abandoned is followed by one that supersedes it; exactly the
+/// station that holds control doesn't serve; and one that takes control has an item left. So it is at the beginning, an attempt keeps it so, and
+/// so it is after any number of attempts, at every lag, for any loads.
+pub fn entries_are_of_the_plan()
+    ensures first { (plan : PlanData) → IsAccepted plan → IsRunOf plan (first_run plan) }
+    ensures next { (k : ℕ) (plan : PlanData) (loads : List TimedLoad) (run : Run) → IsAccepted plan → IsRunOf plan run →
+        IsRunOf plan (attempt k loads plan.faults run) }
+    ensures each { (k : ℕ) (plan : PlanData) (loads : List TimedLoad) (n : ℕ) → IsAccepted plan →
+        IsRunOf plan (attempts_after k loads plan.faults n (first_run plan)) }
+{}

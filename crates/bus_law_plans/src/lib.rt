@@ -1,0 +1,12 @@
+//! What holds in each run of an accepted plan by the message table alone. Laws alone, each the contract of an empty function; no world is in them.
+#![tactic(auto)]
+
+pub mod amounts;
+pub mod bounds;
+pub mod entries;
+pub mod memories;
+
+pub use amounts::an_agenda_has_so_many_attempts;
+pub use bounds::a_run_keeps_its_bounds;
+pub use entries::entries_are_of_the_plan;
+pub use memories::memories_keep_word_ranges;
