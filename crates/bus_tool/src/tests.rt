@@ -24,9 +24,6 @@ words = [0x0102, 0x0304]
 address = 5
 ";
 
-const FIRST_LINE: &str = "attempt 1 station 31 frame 1 item 1 try 1 A 8 2822 clear status 2800
-";
-
 // The report of that plan up to its last line, before which stands what a subsystem says.
 const LINES: &str = "attempt 1 station 31 frame 1 item 1 try 1 A 8 2822 clear status 2800
 word 8 A c 2822
@@ -72,6 +69,12 @@ const CAPTURE: &str = "1553 capture 1
 -.+.-.+.+.-.-.+.-.+.-.+.-.+.-.+.-.+.+.-.-.+.+.-.-.-.-.+.+.+.-.+.-.+.-.+.-.+.-.+.-.+.+.-.+.-.-.+.-.+.-.+.-.+.-.+.+.-.-.+.-.+.-.+.
 ........+.+.+.-.-.-.-.+.-.+.+.-.-.+.+.-.-.+.-.+.-.+.-.+.-.+.-.+.-.+.-.+.-.+.-.+.-.+.+.-.........................................
 ........................................................................................................................
+";
+
+// The words of the 141 ticks that stand in its first 300 bytes.
+const WORDS_OF_300_BYTES: &str = "word 8 A c 2822
+word 48 A d 0102
+word 88 A d 0304
 ";
 
 // An object with room for so many deliveries, for which there is never more memory.
@@ -125,6 +128,14 @@ impl Streams {
             failing_reads: Vec::new(rt.alloc()),
             failing_writes: Vec::new(rt.alloc()),
         }
+    }
+
+    // The read and the write with these numbers fail; numbers begin with 1.
+    fn failing(rt: &HostRuntime, most: usize, read: u64, write: u64) -> Result<Streams, Fail> {
+        let mut streams = Streams::steady(rt, most);
+        streams.failing_reads.push(read)?;
+        streams.failing_writes.push(write)?;
+        Ok(streams)
     }
 }
 
@@ -251,26 +262,69 @@ fn one_message_on_the_line(rt: HostRuntime) -> Result<(), Fail> {
 }
 
 #[test]
-fn a_source_that_fails(rt: HostRuntime) -> Result<(), Fail> {
-    for (most, failing, message) in [(4096, 1, "at once"), (10, 2, "in the middle of the plan")] {
-        let mut streams = Streams::steady(&rt, most);
-        streams.failing_reads.push(failing)?;
-        let left = run_over(&rt, "run", PLAN, streams, true)?;
-        assert_eq!(rt; left.ended.status, 4, "{message}");
-        assert_eq!(rt; left.sink.bytes(), b"".as_slice());
+fn streams_that_fail(rt: HostRuntime) -> Result<(), Fail> {
+    // the word, the input, the most bytes that a read gives, the read and the write that fail (0: none), the status, the text
+    for (word, input, most, read, write, status, text) in [
+        ("run", PLAN, 4096, 1, 0, 4, ""),
+        ("run", PLAN, 10, 2, 0, 4, ""),
+        ("run", "version =", 4096, 0, 1, 5, ""),
+        ("capture", PLAN, 10, 2, 0, 4, ""),
+        ("capture", PLAN, 4096, 0, 1, 5, ""),
+        ("decode", CAPTURE, 300, 2, 0, 4, WORDS_OF_300_BYTES),
+        ("decode", CAPTURE, 4096, 0, 1, 5, ""),
+        ("messages", CAPTURE, 300, 2, 0, 4, ""),
+        ("messages", CAPTURE, 4096, 0, 1, 5, ""),
+    ] {
+        let left = run_over(
+            &rt,
+            word,
+            input,
+            Streams::failing(&rt, most, read, write)?,
+            true,
+        )?;
+        assert_eq!(rt;
+            left.ended.status,
+            status,
+            "{word}, read {read}, write {write}"
+        );
+        assert_eq!(rt; left.ended.bus.is_some(), false);
+        assert_eq!(rt;
+            left.sink.bytes(),
+            text.as_bytes(),
+            "{word}, read {read}, write {write}"
+        );
     }
     Ok(())
 }
 
 #[test]
-fn a_sink_that_fails(rt: HostRuntime) -> Result<(), Fail> {
-    for (plan, failing, written) in [(PLAN, 2, FIRST_LINE), ("version =", 1, "")] {
-        let mut streams = Streams::steady(&rt, 4096);
-        streams.failing_writes.push(failing)?;
-        let left = run_over(&rt, "run", plan, streams, true)?;
-        assert_eq!(rt; left.ended.status, 5);
-        assert_eq!(rt; left.sink.bytes(), written.as_bytes());
+fn each_write_of_a_report_fails(rt: HostRuntime) -> Result<(), Fail> {
+    let report = report_with(&rt, "")?;
+    let mut written = String::new(rt.alloc());
+    let mut write = 1u64;
+    for line in report.lines() {
+        let left = run_over(
+            &rt,
+            "run",
+            PLAN,
+            Streams::failing(&rt, 4096, 0, write)?,
+            true,
+        )?;
+        assert_eq!(rt; left.ended.status, 5, "write {write}");
+        assert_eq!(rt; left.sink.bytes(), written.as_bytes(), "write {write}");
+        written.push_str(line)?;
+        written.push_str("\n")?;
+        write = write.saturating_add(1);
     }
+    let left = run_over(
+        &rt,
+        "run",
+        PLAN,
+        Streams::failing(&rt, 4096, 0, write)?,
+        true,
+    )?;
+    assert_eq!(rt; left.ended.status, 0, "a report has a write for each line");
+    assert_eq!(rt; left.sink.bytes(), written.as_bytes());
     Ok(())
 }
 
