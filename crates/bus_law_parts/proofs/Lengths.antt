@@ -10,7 +10,6 @@ use Rattle.std.specs.List.{list_any}
 use Rattle.bus_base.specs.declared.samples.Part.{Part}
 use Rattle.bus_base.specs.declared.samples.Sample.{Sample}
 use Rattle.bus_base.specs.declared.samples.Sample.TheVariants.{Quiet}
-use Rattle.bus_base.specs.Samples.{exchanged}
 use Rattle.bus_words.specs.declared.word.Word.{Word}
 use Rattle.bus_formats.specs.Accepted.{least_cut, word_struck}
 use Rattle.bus_formats.specs.Forms.{data_word}
@@ -20,7 +19,7 @@ use Rattle.bus_model.specs.Strikes.{spoils, spoiled, cut_by, added_by, own_struc
 use Rattle.bus_model.specs.Transmissions.{cut_over}
 use Rattle.bus_model.specs.Wire.{hit_sample, struck_sample}
 use Rattle.bus_law_parts.specs.Parts.{HitsFit}
-use Rattle.bus_law_parts.proofs.Strikes.{IsApartFrom, AreApart, AreRanged, AreKeeping, apart-all, ranged-all}
+use Rattle.bus_law_parts.proofs.Strikes.{IsApartFrom, AreApart, AreRanged, AreKeeping, apart-all, ranged-all, exchanged-either, quiet-either}
 
 -- ---- the hit that cuts a part, if one does
 
@@ -38,18 +37,10 @@ record IsCut (part : Part) (hits : List Hit) (after : ℕ) : Type 0 where
   quiet : (i : ℕ) (x : Sample) → 40 * after ≤ i → struck_sample i hits x ≡ Quiet
 
 -- what is quiet stays so
-exchanged-quiet : (b : Bool) → (if b then exchanged Quiet else Quiet) ≡ Quiet
-exchanged-quiet true = refl
-exchanged-quiet false = refl
-
-either-quiet : (b : Bool) → (if b then Quiet else Quiet) ≡ Quiet
-either-quiet true = refl
-either-quiet false = refl
-
 hit-quiet : (i : ℕ) (hit : Hit) → hit_sample i hit Quiet ≡ Quiet
-hit-quiet i (Flip word set) = exchanged-quiet (strikes_at i word set)
-hit-quiet i (Fade word set) = either-quiet (strikes_at i word set)
-hit-quiet i (Cut after) = either-quiet (nat_le (40 * after) i)
+hit-quiet i (Flip word set) = exchanged-either (strikes_at i word set)
+hit-quiet i (Fade word set) = quiet-either (strikes_at i word set)
+hit-quiet i (Cut after) = quiet-either (nat_le (40 * after) i)
 hit-quiet i (Extra words) = refl
 
 pub struck-quiet : (i : ℕ) (hits : List Hit) → struck_sample i hits Quiet ≡ Quiet

@@ -1,7 +1,7 @@
 -- Which samples of a part are quiet: those that a fade takes, and of four in a row never all.
 use Rattle.std.proofs.Common.{◌≡◌, ◌⊎◌, inl, inr, ℕ, zero, suc, ◌+◌, ◌-◌, ◌*◌, ◌/◌, ◌%◌, ◌<◌, ◌≤◌, Bool, true, false, ◌==◌, List, [], ◌∷◌, length, Some, refl, sym, ap, ◌∙◌, arith}
 use Rattle.std.proofs.Math.Bool.{or-false}
-use Rattle.std.proofs.lemmas.Bool.{cases_Bool, cases_lt, lt-ltb, le-ltb, lt-leb, and_parts, or_from}
+use Rattle.std.proofs.lemmas.Bool.{cases_Bool, cases_lt, lt-ltb, le-ltb, lt-leb, and_parts, and_right, or_from}
 use Rattle.std.proofs.lemmas.Bool.Decides.{nat_tests}
 use Rattle.std.specs.Prelude.{◌||◌, ◌&&◌, nat_lt, nat_le, if◌then◌else◌, min}
 use Rattle.std.specs.List.{list_any}
@@ -24,7 +24,7 @@ use Rattle.bus_model.specs.Wire.{hit_sample, struck_sample}
 use Rattle.bus_law_line.specs.Shown.{sample_of, first_samples}
 use Rattle.bus_law_line.proofs.WordSlots.{heard-unstruck}
 use Rattle.bus_law_parts.specs.Parts.{HitsFit, part_ticks, part_sample}
-use Rattle.bus_law_parts.proofs.Strikes.{IsApartFrom, AreApart, AreRanged, Keeps, AreKeeping, apart-all, ranged-all, strikes-other, takes-named}
+use Rattle.bus_law_parts.proofs.Strikes.{IsApartFrom, AreApart, AreRanged, Keeps, AreKeeping, apart-all, ranged-all, strikes-own, strikes-other, takes-named}
 use Rattle.bus_law_parts.proofs.Lengths.{own-slot, whole-or-short, own-low}
 use Rattle.bus_law_parts.proofs.PartSlots.{own-sample, added-sample}
 use Rattle.bus_law_parts.proofs.Runs.{run_to, count_to, names-count, count-below, run-few, quiet-run}
@@ -127,12 +127,6 @@ no-fade n p hit (Fade word set ∷ hits) low own apart = elim (cases_Bool (word 
   | inr other ↦ rw (strikes-other n word p set low other) (no-fade n p hit hits low own apart.1)
 ]
 
-own-fade : (n p : ℕ) (set : List Bool) → p < 40 → strikes_at (40 * n + p) n set ≡ takes set p
-own-fade n p set h =
-    let place : (40 * n + p) / 40 ≡ n = omega (arith, h) in
-    let inner : (40 * n + p) % 40 ≡ p = omega (arith, h) in
-    grind (arith, place, inner)
-
 fade-here : (n word : ℕ) (set : List Bool) (positions : List ℕ) (hits : List Hit) → word ≡ n → IsFade positions → set ≡ set_of positions →
     IsApartFrom (Fade word set) hits → IsFadedAt n (Fade word set ∷ hits) positions
 fade-here n word set positions hits same fade is apart = record {
@@ -142,7 +136,7 @@ fade-here n word set positions hits same fade is apart = record {
       ap (λ w. strikes_at (40 * n + p) w set || list_any (fades_at (40 * n + p)) hits) same
       ∙ ap (λ b. strikes_at (40 * n + p) n set || b) (no-fade n p (Fade word set) hits low (ap Some same) apart)
       ∙ or-false (strikes_at (40 * n + p) n set)
-      ∙ own-fade n p set low
+      ∙ strikes-own n p set low
       ∙ ap (λ s. takes s p) is
       ∙ takes-named positions p low
       );
@@ -199,11 +193,7 @@ module _ (part : Part) (hits : List Hit) (words : List Word) (fits : HitsFit par
   bare-at n p low out =
       let fade = fade-of n in
       let none : list_any (fades_at (40 * n + p)) hits ≡ false = fade.1.faded p low ∙ names-outside fade.0 p fade.1.within out in
-      rw none (and-false (nat_lt (40 * n + p) (40 * length words)))
-    where
-      and-false : (b : Bool) → (b && false) ≡ false
-      and-false true = refl
-      and-false false = refl
+      and_right (nat_lt (40 * n + p) (40 * length words)) (list_any (fades_at (40 * n + p)) hits) none
 
   -- so no run goes on from one word into the next
   pub run-words : (n : ℕ) → run_to (is_own_faded hits words) (40 * n) ≡ 0

@@ -1,6 +1,6 @@
 -- What a channel shows while one station sends a part there.
 use Rattle.std.proofs.Common.{◌≡◌, ◌≢◌, ◌⊎◌, inl, inr, ℕ, zero, suc, ◌+◌, ◌-◌, ◌*◌, ◌%◌, ◌<◌, ◌≤◌, Bool, true, false, ◌==◌, nat_lt, List, [], ◌∷◌, ◌++◌, length, get_or, Option, Some, None, refl, sym, ap, ◌∙◌, arith, length-append}
-use Rattle.std.proofs.lemmas.Bool.{cases_eq, cases_lt, lt-ltb, le-ltb, le-leb, lt-leb}
+use Rattle.std.proofs.lemmas.Bool.{cases_eq, cases_lt, lt-ltb, le-ltb, le-leb, lt-leb, and_right}
 use Rattle.std.proofs.lemmas.Bool.Decides.{nat_tests}
 use Rattle.std.specs.Prelude.{◌&&◌, not, nat_le, min, if◌then◌else◌, find, count_by}
 use Rattle.std.specs.List.{list_any}
@@ -178,10 +178,6 @@ extra-is t driven tick (Extra words ∷ hits) apart some =
 command-goes-on : (part : Part) (b : Bool) → part ≡ Command → (not (same_part part Command) && b) ≡ false
 command-goes-on part b same = ap (λ p. not (same_part p Command) && b) same
 
-beside-nothing : (a b : Bool) → b ≡ false → (a && b) ≡ false
-beside-nothing true b h = h
-beside-nothing false b h = refl
-
 -- nobody ends it from the other channel
 goes-on : (faults : List Fault) (s : Sender) (hits : List Hit) (before sent : List (List Drive)) → SentPart faults s hits before sent →
     0 < added_by hits → 40 * length s.words < length sent → ends_beside (own faults s before) (sent ++ before) ≡ false
@@ -193,7 +189,7 @@ goes-on faults s hits before sent h some past = by h.beside
     by (inr (inl command)) = command-goes-on s.part (driven_since (other_of s.channel) (sent ++ before) (length before)) command
     by (inr (inr (inl none))) = absurd (omega (arith, none, some))
     by (inr (inr (inr undriven))) =
-        beside-nothing (not (same_part s.part Command)) (driven_since (other_of s.channel) (sent ++ before) (length before))
+        and_right (not (same_part s.part Command)) (driven_since (other_of s.channel) (sent ++ before) (length before))
         (driven-nothing (other_of s.channel) before sent undriven)
 
 five : (a b c d e : Bool) (x : Sample) → a ≡ true → b ≡ true → c ≡ true → d ≡ false → e ≡ false →
@@ -248,7 +244,7 @@ extra-over t driven first long words tick o begins some is late =
         let no : nat_le tick (last-tick + 40 * words) ≡ false = lt-leb tick (last-tick + 40 * words) high in rw no refl
     too-late true (inr low) =
         let no : nat_lt tick (t.first + longest) ≡ false = le-ltb tick (t.first + longest) (omega (arith, low, late, begins, some)) in
-        rw no (beside-nothing (nat_le tick (last-tick + 40 * words)) false refl)
+        rw no (and_right (nat_le tick (last-tick + 40 * words)) false refl)
 
 -- ---- what is shown of it after its words
 

@@ -1,5 +1,6 @@
 -- What is left of a part whose station stops: no extra follows words that weren't sent whole, and one that runs ends with a drive beside it.
 use Rattle.std.proofs.Common.{◌≡◌, ◌≢◌, inl, inr, ℕ, zero, suc, ◌+◌, ◌-◌, ◌*◌, ◌<◌, Bool, true, false, nat_lt, List, [], ◌∷◌, ◌++◌, length, Option, Some, None, refl, ap, ◌∙◌, arith, length-append}
+use Rattle.std.proofs.Math.Bool.{or-true}
 use Rattle.std.proofs.lemmas.Bool.{cases_eq, and_right}
 use Rattle.std.specs.Prelude.{◌&&◌, ◌||◌, not, nat_le, if◌then◌else◌, find}
 use Rattle.std.specs.List.{list_any}
@@ -23,10 +24,6 @@ use Rattle.bus_law_parts.proofs.Strikes.{apart-all}
 use Rattle.bus_law_parts.proofs.Counting.{no-command}
 use Rattle.bus_law_parts.proofs.LookBacks.{last-none, driven-more}
 use Rattle.bus_law_parts.proofs.SentParts.{own, own-found, others-spent, other-none, extra-is, some-words}
-
-or-true : (b : Bool) → (b || true) ≡ true
-or-true true = refl
-or-true false = refl
 
 -- ---- words that weren't sent whole
 

@@ -71,7 +71,7 @@ AreKeeping n (hit ∷ hits) = Keeps n hit × AreKeeping n hits
 
 -- ---- a hit of another word leaves a sample
 
-strikes-own : (n p : ℕ) (set : List Bool) → p < 40 → strikes_at (40 * n + p) n set ≡ takes set p
+pub strikes-own : (n p : ℕ) (set : List Bool) → p < 40 → strikes_at (40 * n + p) n set ≡ takes set p
 strikes-own n p set h =
     let place : (40 * n + p) / 40 ≡ n = omega (arith, h) in
     let inner : (40 * n + p) % 40 ≡ p = omega (arith, h) in
@@ -157,11 +157,11 @@ shown-at n hits word p h = get_or-map-range_with_len (λ q. struck_sample (40 * 
 quiet-past : (samples : List Sample) (p : ℕ) → length samples ≡ 40 → 40 ≤ p → get_or samples p Quiet ≡ Quiet
 quiet-past samples p long h = get_or_past samples p Quiet (omega (arith, long, h))
 
-exchanged-either : (b : Bool) → (if b then exchanged Quiet else Quiet) ≡ Quiet
+pub exchanged-either : (b : Bool) → (if b then exchanged Quiet else Quiet) ≡ Quiet
 exchanged-either true = refl
 exchanged-either false = refl
 
-quiet-either : (b : Bool) → (if b then Quiet else Quiet) ≡ Quiet
+pub quiet-either : (b : Bool) → (if b then Quiet else Quiet) ≡ Quiet
 quiet-either true = refl
 quiet-either false = refl
 

@@ -1,6 +1,8 @@
 -- What stands in the slots of a part, and how many there are, whatever hits strike it.
-use Rattle.std.proofs.Common.{◌≡◌, ◌⊎◌, inl, inr, ℕ, zero, suc, ◌+◌, ◌-◌, ◌<◌, ◌≤◌, Bool, true, false, List, [], ◌∷◌, ◌++◌, length, map, take, Option, Some, None, refl, sym, ap, ◌∙◌, arith}
+use Rattle.std.proofs.Common.{◌≡◌, ◌⊎◌, inl, inr, ℕ, ◌+◌, ◌-◌, ◌<◌, ◌≤◌, Bool, true, false, List, [], ◌∷◌, ◌++◌, length, map, Option, Some, None, refl, sym, ap, ◌∙◌, arith}
 use Rattle.std.proofs.lemmas.Bool.{cases_lt}
+use Rattle.std.proofs.Math.Seq.{take-nil}
+use Rattle.std.proofs.lemmas.List.{append-nil}
 use Rattle.std.proofs.lemmas.Option.{same_Some, slice_get_within}
 use Rattle.std.specs.Prelude.{if◌then◌else◌, slice_get}
 use Rattle.std.specs.List.{list_any}
@@ -56,16 +58,8 @@ spoiled-none : (n : ℕ) (words : List Word) → spoiled [] n words ≡ map (λ 
 spoiled-none n [] = refl
 spoiled-none n (word ∷ words) = ap (λ slots. Some word ∷ slots) (spoiled-none (n + 1) words)
 
-take-none : {X : Type 0} (n : ℕ) → take {A = X} n [] ≡ []
-take-none zero = refl
-take-none (suc n) = refl
-
-append-none : {X : Type 0} (xs : List X) → xs ++ [] ≡ xs
-append-none [] = refl
-append-none (x ∷ xs) = ap (λ ys. x ∷ ys) (append-none xs)
-
 pub unstruck-slots : (words : List Word) → struck [] words ≡ map (λ w. Some w) words
 unstruck-slots words =
-    ap (λ more. spoiled [] 0 words ++ more) (take-none {X = Option Word} (40 - length (spoiled [] 0 words)))
-    ∙ append-none (spoiled [] 0 words)
+    ap (λ more. spoiled [] 0 words ++ more) (take-nil {A = Option Word} (40 - length (spoiled [] 0 words)))
+    ∙ append-nil (spoiled [] 0 words)
     ∙ spoiled-none 0 words
