@@ -50,6 +50,7 @@ accepts-not k t loads past x s (promises command transmitter) none = refl
 accepts-not k t loads past x s (owes words false) none = refl
 accepts-not k t loads past x s (owes words true) none = absurd (true≢false none)
 
+-- a burst that began otherwise is no answer
 status-not : (due : ℕ) (o : Option Burst) → ((burst : Burst) → o ≡ Some burst → burst.first ≡ due → ⊥) → heard_status due o ≡ None
 status-not due None other = refl
 status-not due (Some burst) other =
@@ -64,12 +65,14 @@ accepts-other k t loads past x s (owes words false) other = refl
 accepts-other k t loads past x s (owes words true) other =
     either-none (given_up k t past s) (heard_status (due_after t s.end) (ended_now k (x ∷ past))) (status-not (due_after t s.end) (ended_now k (x ∷ past)) other)
 
+-- in the newest tick of any hearing
 pub accepted-not : (k : ℕ) (t : TerminalData) (loads : List TimedLoad) (memory : Memory) (heard : List Moment) (now : Moment) →
     is_acceptance (standing k t loads memory heard).duty ≡ false → accepted_now k t loads record { memory = memory; ticks = now ∷ heard } ≡ None
 accepted-not k t loads memory heard now none =
     let s = standing k t loads memory heard in
     accepts-not k t loads (heard_on s.channel heard) (sample_on now.shown s.channel) s s.duty none
 
+-- likewise of another burst
 pub accepted-other : (k : ℕ) (t : TerminalData) (loads : List TimedLoad) (memory : Memory) (heard : List Moment) (now : Moment) →
     let s = standing k t loads memory heard in
     ((burst : Burst) → ended_now k (heard_on s.channel (now ∷ heard)) ≡ Some burst → burst.first ≡ due_after t s.end → ⊥) →
@@ -81,12 +84,15 @@ accepted-other k t loads memory heard now other =
 module _ (k : ℕ) (t : TerminalData) (loads : List TimedLoad) (memory : Memory) (c : Channel) (heard ticks : List Moment) (first : Moment)
     (answer : BeginsAnswer k t (standing k t loads memory heard) c heard)
     (hears : HearsBurst k t (standing k t loads memory heard) c heard (first ∷ ticks)) where
+  -- what stands of the terminal as it begins to answer
   abbrev s : Standing
   s = standing k t loads memory heard
 
+  -- the ticks heard, with those of the answer so far
   abbrev past : List Moment
   past = (first ∷ ticks) ++ heard
 
+  -- the tick after them is looked at with the mark of the transmission
   at-tick : (now : Moment) (o : Option ℕ) →
       accepted_by k t loads (heard_on c past) (sample_on now.shown c) (with_sent s c (Some (length heard))) s.duty ≡ o →
       accepted_now k t loads record { memory = memory; ticks = now ∷ past } ≡ o
@@ -96,12 +102,14 @@ module _ (k : ℕ) (t : TerminalData) (loads : List TimedLoad) (memory : Memory)
       ∙ ap (λ x. accepted_by k t loads (heard_on x past) (sample_on now.shown x) (with_sent s c (Some (length heard))) s.duty) answer.channel
       ∙ is
 
+  -- the burst of the answer is a status
   status-at : (burst : Burst) → burst.first ≡ length heard → 40 ≤ burst.ticks → heard_status (due_after t s.end) (Some burst) ≡ Some (end_of burst)
   status-at burst at whole =
       let test : ((burst.first == due_after t s.end) && nat_le 40 burst.ticks) ≡ true =
       and_from _ _ (eq-eqb burst.first (due_after t s.end) (at ∙ sym answer.due)) (le-leb 40 burst.ticks whole) in
       rw test refl
 
+  -- so control is accepted with its end
   pub accepted-at : (now : Moment) (burst : Burst) (words : List Word) → s.duty ≡ owes words true →
       ended_now k (heard_on c (now ∷ past)) ≡ Some burst → 40 ≤ burst.ticks →
       accepted_now k t loads record { memory = memory; ticks = now ∷ past } ≡ Some (end_of burst)
@@ -122,6 +130,7 @@ leg-burst k c t s heard ticks now burst hears ended =
     let none = ap (ended_now k) (heard-append c (now ∷ ticks) heard) ∙ leg-ends-not k (sample_on now.shown c) (heard_on c ticks) (heard_on c heard) hears.leg in
     let bad : None ≡ Some burst = sym none ∙ ended in absurd (cc)
 
+-- in each of its ticks
 pub accepted-early : (k : ℕ) (t : TerminalData) (loads : List TimedLoad) (memory : Memory) (c : Channel) (heard ticks : List Moment) (now : Moment) →
     BeginsAnswer k t (standing k t loads memory heard) c heard → HearsBurst k t (standing k t loads memory heard) c heard (now ∷ ticks) →
     accepted_now k t loads record { memory = memory; ticks = (now ∷ ticks) ++ heard } ≡ None
@@ -143,10 +152,12 @@ not-now : (take : Take) (n : ℕ) (c : Course) → n < take.heard → (if take.h
 not-now take n c later =
     let test : (take.heard == n) ≡ false = ne_eqb take.heard n (λ e. omega (arith, e, later)) in rw test refl
 
+-- nor do all takes with it
 takes-later : (take : Take) (takes : List Take) (n : ℕ) (c : Course) → n < take.heard → with_takes (takes ++ take ∷ []) n c ≡ with_takes takes n c
 takes-later take [] n c later = not-now take n c later
 takes-later take (other ∷ takes) n c later = takes-later take takes n (if other.heard == n then take_control other.first c else c) later
 
+-- nor the course
 course-later : (k : ℕ) (s : StationData) (starts : Bool) (take : Take) (takes : List Take) (past : List Pair) → length past < take.heard →
     course k s starts (takes ++ take ∷ []) past ≡ course k s starts takes past
 unfolding course
@@ -156,14 +167,17 @@ course-later k s starts take takes (x ∷ past) later =
     course-later k s starts take takes past (omega (arith, later)) in
     rw (before, takes-later take takes (suc (length past)) (run_on k x past (course k s starts takes past) (runs_next past (course k s starts takes past))) later)
 
+-- takes one after the other
 takes-append : (xs ys : List Take) (n : ℕ) (c : Course) → with_takes (xs ++ ys) n c ≡ with_takes ys n (with_takes xs n c)
 takes-append [] ys n c = refl
 takes-append (take ∷ xs) ys n c = takes-append xs ys n (if take.heard == n then take_control take.first c else c)
 
+-- no message runs next of a station that serves
 next-none : (past : List Pair) (c : Course) → Serves c → runs_next past c ≡ None
 next-none past c serves =
     ap (run_by past c) serves.idle ∙ ap (λ (b : Bool). if b then begin_entry past c c.left else None) serves.serves
 
+-- a take of the newest tick gives control
 taking-course : (k : ℕ) (station : StationData) (starts : Bool) (takes : List Take) (take : Take) (x : Pair) (past : List Pair) → AreTaken (length past) takes →
     take.heard ≡ suc (length past) → Serves (course k station starts takes past) →
     course k station starts (takes ++ take ∷ []) (x ∷ past) ≡ take_control take.first (course k station starts takes past)
@@ -187,6 +201,7 @@ module _ (k : ℕ) (station : StationData) (starts : Bool) (loads : List TimedLo
     hearing = record { memory = memory_after k station.terminal loads (hear_more before.hearing (moment_of x c)); ticks = unheard_ticks (x ∷ past) };
   }
 
+  -- a serving station with one take in the newest tick
   takes-so : (b : Bool) (x : Pair) (past : List Pair) (before : StationSoFar) (c : Course) (take : Take) → b ≡ false →
       takes_in k station starts loads outside (length past) (hear_more before.hearing (moment_of x c)) ≡ take ∷ [] →
       (if b then hold k station starts loads outside x past before (course_with k station starts loads outside before.takes (x ∷ past))
@@ -211,6 +226,7 @@ module _ (k : ℕ) (station : StationData) (starts : Bool) (loads : List TimedLo
         ap (λ (after : StationSoFar). course_with k station starts loads outside after.takes (x ∷ past)) taking-hears
         ∙ taking-course k station starts before.takes take x past (always-taken k station starts loads outside past) at serves
 
+  -- an answer that was accepted is such a take
   pub takes-one : (tick : ℕ) (hearing : Hearing) (e : ℕ) → accepted_now k station.terminal loads hearing ≡ Some e →
       outside_takes k station starts loads outside tick outside ≡ [] →
       takes_in k station starts loads outside tick hearing ≡ record { heard = suc tick; first = e + taking_over } ∷ []

@@ -29,6 +29,29 @@ use Rattle.bus_law_control.proofs.Endings.{ends-so, goes-on, sends-nothing, late
 
 -- ---- the tick in which it is abandoned
 
+-- none is not some
+none-some : {X : Type 0} (x : X) → None ≡ Some x → ⊥
+none-some x e = cc
+
+-- equal options have equal values
+some-same : {X : Type 0} (x y : X) → Some x ≡ Some y → x ≡ y
+some-same x y e = cc
+
+-- never
+pub kept-never : (begun : Begun) (past ticks : List Pair) (e : ℕ) → begun.entry.item.abandon ≡ None → AreKept begun e past ticks
+kept-never begun past [] e none = tt
+kept-never begun past (x ∷ ticks) e none = (λ n some at. absurd (none-some n (sym none ∙ some)), kept-never begun past ticks e none)
+
+-- not yet
+pub kept-early : (begun : Begun) (past ticks : List Pair) (e n : ℕ) → begun.entry.item.abandon ≡ Some n → length (ticks ++ past) < e + n →
+    AreKept begun e past ticks
+kept-early begun past [] e n is early = tt
+kept-early begun past (x ∷ ticks) e n is early = (
+  λ m some at. absurd (let same : n ≡ m = some-same n m (sym is ∙ some) in omega (arith, same, at, early)),
+  kept-early begun past ticks e n is (omega (arith, early)),
+)
+
+-- in another tick, or a quiet one, it isn't
 not-abandoned : (k : ℕ) (item : ItemData) (shown : List Pair) (past : List Sample) (e : ℕ) (o : Option ℕ) → o ≡ item.abandon →
     ((n : ℕ) → item.abandon ≡ Some n → length past ≡ e + n → 0 < quiet past) → abandon_ending k item shown past e o ≡ None
 not-abandoned k item shown past e None is kept = refl
@@ -36,12 +59,14 @@ not-abandoned k item shown past e (Some n) is kept =
     let when = kept n (sym is) in
     let test : ((length past == e + n) && (quiet past == 0)) ≡ false = grind (arith, nat_tests, when) in rw test refl
 
+-- in its tick it is
 abandoned : (k : ℕ) (item : ItemData) (shown : List Pair) (past : List Sample) (e n : ℕ) → length past ≡ e + n → quiet past ≡ 0 →
     abandon_ending k item shown past e (Some n) ≡ Some (without_words Abandoned None None)
 abandoned k item shown past e n at heard =
     let test : ((length past == e + n) && (quiet past == 0)) ≡ true = and_from _ _ (eq-eqb (length past) (e + n) at) (eq-eqb (quiet past) 0 heard) in
     rw test refl
 
+-- as its channel has it
 kept-on : (begun : Begun) (e : ℕ) (shown : List Pair) → IsKept begun e shown → (n : ℕ) → begun.entry.item.abandon ≡ Some n →
     length (on_channel begun.state.channel shown) ≡ e + n → 0 < quiet (on_channel begun.state.channel shown)
 kept-on begun e shown kept n is at = kept n is (sym (length-on begun.state.channel shown) ∙ at)
@@ -67,6 +92,7 @@ module _ (k : ℕ) (station : StationData) (starts : Bool) (takes : List Take) (
 
   -- ---- the first answer
 
+  -- while it runs, and isn't abandoned, nothing changes
   pub first-runs : AwaitsFirst k begun (on_channel begun.state.channel past) e → (ticks : List Pair) → ShowsBurst k begun.state.channel past ticks →
       AreKept begun e past ticks → course k station starts takes (ticks ++ past) ≡ course k station starts takes past
   first-runs w [] shows kept = refl
@@ -77,12 +103,14 @@ module _ (k : ℕ) (station : StationData) (starts : Bool) (takes : List Take) (
       ∙ not-abandoned k begun.entry.item ((x ∷ ticks) ++ past) (on_channel begun.state.channel ((x ∷ ticks) ++ past)) e begun.entry.item.abandon refl
       (kept-on begun e ((x ∷ ticks) ++ past) kept.0))
 
+  -- and nothing is sent
   pub first-silent : AwaitsFirst k begun (on_channel begun.state.channel past) e → (ticks : List Pair) → ShowsBurst k begun.state.channel past ticks →
       AreKept begun e past ticks → drive_course k (ticks ++ past) (course k station starts takes (ticks ++ past)) ≡ Silent
   first-silent w ticks shows kept =
       sends-nothing k station starts takes past begun taken answered.runs ticks e (first-runs w ticks shows kept)
       (later-end k begun.state.channel past ticks begun.start e w.ended)
 
+  -- in its tick it is abandoned
   pub first-abandoned : AwaitsFirst k begun (on_channel begun.state.channel past) e → (x : Pair) (ticks : List Pair) (n : ℕ) →
       ShowsBurst k begun.state.channel past (x ∷ ticks) → AreKept begun e past ticks → begun.entry.item.abandon ≡ Some n →
       length ((x ∷ ticks) ++ past) ≡ e + n → quiet (on_channel begun.state.channel ((x ∷ ticks) ++ past)) ≡ 0 →
@@ -97,6 +125,7 @@ module _ (k : ℕ) (station : StationData) (starts : Bool) (takes : List Take) (
       ∙ ap (abandon_ending k begun.entry.item shown channel e) some
       ∙ abandoned k begun.entry.item shown channel e n (length-on begun.state.channel shown ∙ at) heard)
 
+  -- with its end it is read
   pub first-read : (w : AwaitsFirst k begun (on_channel begun.state.channel past) e) (ticks : List Pair) (now : Pair) (burst : Burst) →
       ShowsBurst k begun.state.channel past ticks → AreKept begun e past ticks →
       ended_now k (on_channel begun.state.channel (now ∷ (ticks ++ past))) ≡ Some burst →
@@ -109,6 +138,7 @@ module _ (k : ℕ) (station : StationData) (starts : Bool) (takes : List Take) (
 
   -- ---- a relay's second one
 
+  -- while it runs nothing changes
   pub second-runs : AwaitsSecond k begun (on_channel begun.state.channel past) e → (ticks : List Pair) → ShowsBurst k begun.state.channel past ticks →
       course k station starts takes (ticks ++ past) ≡ course k station starts takes past
   second-runs w [] shows = refl
@@ -117,12 +147,14 @@ module _ (k : ℕ) (station : StationData) (starts : Bool) (takes : List Take) (
       (second-runs w ticks record { rests = shows.rests; leg = shows.leg.2 })
       (second-by k begun past (x ∷ ticks) e running w (reply-runs (inr w) x ticks shows))
 
+  -- and nothing is sent
   pub second-silent : AwaitsSecond k begun (on_channel begun.state.channel past) e → (ticks : List Pair) → ShowsBurst k begun.state.channel past ticks →
       drive_course k (ticks ++ past) (course k station starts takes (ticks ++ past)) ≡ Silent
   second-silent w ticks shows =
       sends-nothing k station starts takes past begun taken answered.runs ticks w.command_end (second-runs w ticks shows)
       (later-end k begun.state.channel past ticks begun.start w.command_end w.ended)
 
+  -- with its end it is read
   pub second-read : (w : AwaitsSecond k begun (on_channel begun.state.channel past) e) (ticks : List Pair) (now : Pair) (burst : Burst) →
       ShowsBurst k begun.state.channel past ticks → ended_now k (on_channel begun.state.channel (now ∷ (ticks ++ past))) ≡ Some burst →
       course k station starts takes (now ∷ (ticks ++ past)) ≡ close_or_run (course k station starts takes past) begun (length (ticks ++ past))

@@ -35,6 +35,7 @@ use Rattle.bus_law_control.proofs.Answered.{reply-read, first-read}
 
 -- ---- it goes on doubting, whatever is shown
 
+-- a tick more
 doubts-more : (k : ℕ) (begun : Begun) (past : List Sample) (now : Sample) (x : ℕ) → IsDoubting k begun past x → IsDoubting k begun (now ∷ past) x
 doubts-more k begun past now x d = record {
   offers = d.offers;
@@ -50,6 +51,7 @@ doubts-more k begun past now x d = record {
   end = d.end;
 }
 
+-- any ticks more
 pub doubts-later : (k : ℕ) (begun : Begun) (past ticks : List Pair) (x : ℕ) → IsDoubting k begun (on_channel begun.state.channel past) x →
     IsDoubting k begun (on_channel begun.state.channel (ticks ++ past)) x
 doubts-later k begun past [] x d = d
@@ -64,6 +66,7 @@ doubts-so k begun past x d =
     ∙ ap (is_bad_reply begun.entry.item) d.answered
     ∙ ap is_bad d.bad
 
+-- of a station
 pub station-doubts : (k : ℕ) (station : StationData) (starts : Bool) (loads : List TimedLoad) (outside : List OutsideTake) (past : List Pair) (begun : Begun)
     (x : ℕ) → (course_after k station starts loads outside past).runs ≡ Some begun → IsDoubting k begun (on_channel begun.state.channel past) x →
     doubts k station starts loads outside past ≡ true
@@ -72,6 +75,7 @@ station-doubts k station starts loads outside past begun x runs d =
 
 -- ---- how it ends
 
+-- the doubt alone decides how its message ends
 ends-by : (k : ℕ) (begun : Begun) (shown : List Pair) (x : ℕ) → IsDoubting k begun (on_channel begun.state.channel shown) x →
     ending_now k begun shown ≡ doubt_ending k begun.entry.item shown (on_channel begun.state.channel shown) x
 ends-by k begun shown x d =
@@ -84,6 +88,7 @@ ends-by k begun shown x d =
     ∙ ap (λ (b : Bool). read_ending k begun.entry.item shown channel d.burst b (BadReply d.part) d.status) d.offers
     ∙ ap (doubt_ending k begun.entry.item shown channel) d.end
 
+-- both channels quiet, fewer than eighty ticks: it goes on
 doubts-on : (k : ℕ) (begun : Begun) (shown : List Pair) (x : ℕ) → length shown ≤ x + quiet_both shown → length shown < x + doubting →
     doubt_ending k begun.entry.item shown (on_channel begun.state.channel shown) x ≡ None
 doubts-on k begun shown x still early =
@@ -91,6 +96,7 @@ doubts-on k begun shown x still early =
     let second : (length shown == x + doubting) ≡ false = ne_eqb (length shown) (x + doubting) (λ e. omega (arith, e, early)) in
     rw (first, second) refl
 
+-- eighty: it ends with a bad reply
 doubts-end : (k : ℕ) (begun : Begun) (shown : List Pair) (x : ℕ) → length shown ≤ x + quiet_both shown → length shown ≡ x + doubting →
     doubt_ending k begun.entry.item shown (on_channel begun.state.channel shown) x ≡ Some (without_words (BadReply First) None None)
 doubts-end k begun shown x still at =
@@ -98,12 +104,14 @@ doubts-end k begun shown x still at =
     let second : (length shown == x + doubting) ≡ true = eq-eqb (length shown) (x + doubting) at in
     rw (first, second) refl
 
+-- a sample was heard: it yields
 doubts-yield : (k : ℕ) (begun : Begun) (shown : List Pair) (x : ℕ) → x + quiet_both shown < length shown →
     doubt_ending k begun.entry.item shown (on_channel begun.state.channel shown) x ≡ Some (without_words Yielded None None)
 doubts-yield k begun shown x heard =
     let first : nat_lt (x + quiet_both shown) (length shown) ≡ true = grind (arith, nat_tests, heard) in
     rw first refl
 
+-- quiet ticks are counted
 pairs-quiet : (n : ℕ) (past : List Pair) → quiet_both (quiet_pairs n ++ past) ≡ n + quiet_both past
 pairs-quiet zero past = omega arith
 pairs-quiet (suc n) past = let rest : quiet_both (quiet_pairs n ++ past) ≡ n + quiet_both past = pairs-quiet n past in omega (arith, rest)
@@ -123,12 +131,14 @@ module _ (k : ℕ) (station : StationData) (starts : Bool) (takes : List Take) (
       (ends-by k begun shown x (doubts-later k begun past (quiet_pairs (suc n)) x doubt)
       ∙ doubts-on k begun shown x (omega (arith, long, quiet, still)) (omega (arith, long, early)))
 
+  -- it sends nothing meanwhile
   pub doubt-silent : length past ≤ x + quiet_both past → (n : ℕ) → length past + n < x + doubting →
       drive_course k (quiet_pairs n ++ past) (course k station starts takes (quiet_pairs n ++ past)) ≡ Silent
   doubt-silent still n early =
       sends-nothing k station starts takes past begun taken runs (quiet_pairs n) doubt.command_end (doubt-waits still n early)
       (later-end k begun.state.channel past (quiet_pairs n) begun.start doubt.command_end doubt.ended)
 
+  -- with the eightieth its message ends
   pub doubt-over : length past ≤ x + quiet_both past → (n : ℕ) → suc (length past + n) ≡ x + doubting →
       course k station starts takes (quiet_pairs (suc n) ++ past)
       ≡ close (course k station starts takes past) begun (without_words (BadReply First) None None) (length past + n)
@@ -154,6 +164,7 @@ module _ (k : ℕ) (station : StationData) (starts : Bool) (takes : List Take) (
 
 -- ---- it begins to doubt
 
+-- with the end of a bad answer, where both channels were quiet since
 pub doubt-begins : (k : ℕ) (station : StationData) (starts : Bool) (takes : List Take) (past ticks : List Pair) (now : Pair) (begun : Begun) (e : ℕ)
     (burst : Burst) (part : Part) (status : Option ℕ) → suc k < doubting → AreTaken (length past) takes →
     IsAnsweredSoon begun (course k station starts takes past) past e → AwaitsFirst k begun (on_channel begun.state.channel past) e →

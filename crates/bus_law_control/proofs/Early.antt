@@ -22,6 +22,7 @@ use Rattle.bus_law_stations.proofs.StillController.{not-taken}
 use Rattle.bus_law_stations.proofs.Commanding.{pairs-append}
 use Rattle.bus_law_control.specs.Waiting.{StartsLater, StartedNone}
 
+-- no entry begins before its start
 begin-none : (past : List Pair) (c : Course) (left : List Entry) → c.left ≡ left → StartsLater c past → begin_entry past c left ≡ None
 begin-none past c [] is later = refl
 begin-none past c (entry ∷ rest) is later =
@@ -30,13 +31,16 @@ begin-none past c (entry ∷ rest) is later =
     ne_eqb (start_of c.opening c.retry c.origin entry (quiet_from past)) (length past) (λ e. omega (arith, e, late)) in
     rw test refl
 
+-- none on either branch
 either-none : {X : Type 0} (b : Bool) (o : Option X) → o ≡ None → (if b then o else None) ≡ None
 either-none true o none = none
 either-none false o none = refl
 
+-- so no message runs next
 next-none : (past : List Pair) (c : Course) → c.runs ≡ None → StartsLater c past → runs_next past c ≡ None
 next-none past c idle later = ap (run_by past c) idle ∙ either-none c.holds (begin_entry past c c.left) (begin-none past c c.left refl later)
 
+-- nothing changes over such ticks
 pub early-course : (k : ℕ) (station : StationData) (starts : Bool) (takes : List Take) (past ticks : List Pair) → AreTaken (length past) takes →
     (course k station starts takes past).runs ≡ None → StartedNone (course k station starts takes past) past ticks →
     course k station starts takes (ticks ++ past) ≡ course k station starts takes past
@@ -51,6 +55,7 @@ early-course k station starts takes past (x ∷ ticks) taken idle none =
     ∙ ap (λ o. with_takes takes (suc (length later)) (run_on k x later c o)) (next-none later c idle none.0)
     ∙ not-taken (length past) (suc (length later)) takes c taken (omega (arith, long))
 
+-- and nothing is sent
 pub early-silent : (k : ℕ) (station : StationData) (starts : Bool) (takes : List Take) (past ticks : List Pair) → AreTaken (length past) takes →
     (course k station starts takes past).runs ≡ None → StartedNone (course k station starts takes past) past ticks →
     StartsLater (course k station starts takes past) (ticks ++ past) →
@@ -61,17 +66,21 @@ early-silent k station starts takes past ticks taken idle none later =
 
 -- ---- the quiet that it needs
 
+-- an item's own gap only adds to what is needed
 needs : (retry : Option RetryState) (entry : Entry) (need : ℕ) → need ≤ quiet_for retry entry need
 needs None entry need = omega arith
 needs (Some state) entry need = omega arith
 
+-- no more ticks were quiet than there were
 both-few : (past : List Pair) → quiet_both past ≤ length past
 both-few [] = omega arith
 both-few (x ∷ past) = few (both_quiet x) (both-few past) where
+  -- with a tick more
   few : (b : Bool) → quiet_both past ≤ length past → (if b then suc (quiet_both past) else 0) ≤ suc (length past)
   few true rest = omega (arith, rest)
   few false rest = omega arith
 
+-- so nothing starts before
 pub needs-quiet : (c : Course) (past : List Pair) (need tick : ℕ) → c.opening ≡ usual need tick → quiet_both past < need → StartsLater c past
 needs-quiet c past need tick opens few entry later left =
     let wants : need ≤ quiet_for c.retry entry need = needs c.retry entry need in
@@ -81,17 +90,20 @@ needs-quiet c past need tick opens few entry later left =
 
 -- ---- a burst that runs on a channel
 
+-- both channels quiet is each quiet
 pair-quiet : (a b : Bool) (c : Channel) (x : Pair) → is_quiet x.a ≡ a → is_quiet x.b ≡ b → both_quiet x ≡ true → is_quiet (sample_on x c) ≡ true
 pair-quiet true true A x at_a at_b both = at_a
 pair-quiet true true B x at_a at_b both = at_b
 pair-quiet true false c x at_a at_b both = absurd (let bad : both_quiet x ≡ false = rw (at_a, at_b) refl in grind (arith, both, bad))
 pair-quiet false b c x at_a at_b both = absurd (let bad : both_quiet x ≡ false = rw at_a refl in grind (arith, both, bad))
 
+-- a quiet tick is counted
 quiet-one : (x : Sample) (past : List Sample) → is_quiet x ≡ true → quiet (x ∷ past) ≡ suc (quiet past)
 quiet-one Plus past is = absurd (grind (arith, is))
 quiet-one Minus past is = absurd (grind (arith, is))
 quiet-one Quiet past is = refl
 
+-- with a tick more
 below-one : (b : Bool) (c : Channel) (x : Pair) (past : List Pair) → both_quiet x ≡ b → quiet_both past ≤ quiet (on_channel c past) →
     (if b then suc (quiet_both past) else 0) ≤ quiet (on_channel c (x ∷ past))
 below-one false c x past is rest = omega arith
@@ -103,6 +115,7 @@ pub both-below : (c : Channel) (past : List Pair) → quiet_both past ≤ quiet 
 both-below c [] = omega arith
 both-below c (x ∷ past) = below-one (both_quiet x) c x past refl (both-below c past)
 
+-- while a burst runs both are quiet for no more ticks than the lag has
 pub leg-breaks : (k : ℕ) (c : Channel) (past ticks : List Pair) (x : Pair) → InLeg k (on_channel c (x ∷ ticks)) → quiet_both ((x ∷ ticks) ++ past) ≤ k
 leg-breaks k c past ticks x leg =
     let below : quiet_both ((x ∷ ticks) ++ past) ≤ quiet (on_channel c ((x ∷ ticks) ++ past)) = both-below c ((x ∷ ticks) ++ past) in

@@ -39,6 +39,7 @@ module _ (k : ℕ) (station : StationData) (starts : Bool) (takes : List Take) (
       ∙ ap (λ o. with_takes takes (suc (length later)) (close_or_run c begun (length later) o)) is
       ∙ not-taken (length past) (suc (length later)) takes (close_or_run c begun (length later) o) taken (omega (arith, long))
 
+  -- it goes on
   pub goes-on : (x : Pair) (ticks : List Pair) → course k station starts takes (ticks ++ past) ≡ course k station starts takes past →
       ending_now k begun (x ∷ (ticks ++ past)) ≡ None →
       course k station starts takes (x ∷ (ticks ++ past)) ≡ course k station starts takes past
@@ -55,12 +56,14 @@ module _ (k : ℕ) (station : StationData) (starts : Bool) (takes : List Take) (
 
 -- ---- what stays known with more ticks
 
+-- an answer that is whole
 pub later-whole : (k : ℕ) (channel : Channel) (past later : List Pair) (e : ℕ) (burst : Burst) → reply k (on_channel channel past) e ≡ whole burst →
     reply k (on_channel channel (later ++ past)) e ≡ whole burst
 later-whole k channel past [] e burst is = is
 later-whole k channel past (x ∷ later) e burst is =
     whole-stays k (sample_on x channel) (on_channel channel (later ++ past)) e burst (later-whole k channel past later e burst is)
 
+-- the end of the command
 pub later-end : (k : ℕ) (channel : Channel) (past later : List Pair) (start e : ℕ) → end_since k (on_channel channel past) start ≡ Some e →
     end_since k (on_channel channel (later ++ past)) start ≡ Some e
 later-end k channel past [] start e is = is
@@ -125,21 +128,25 @@ awaits-by k begun shown past e r o (inr w) heard none ends which =
       | inr is ↦ ap (second_ending k begun.entry.item shown past w.status) is ∙ sym (ends is)
     ]
 
+-- an answer that didn't come in time is none
 pub silence-then : (k : ℕ) (past : List Sample) (e : ℕ) → first_heard past e ≡ None → e + no_response < length past → reply k past e ≡ silence
 silence-then k past e none late =
     let over : nat_lt (e + no_response) (length past) ≡ true = grind (arith, nat_tests, late) in
     ap (reply_from k past e) none ∙ ap (λ (b : Bool). if b then silence else awaited) over
 
+-- nothing was heard since the burst that is to be answered
 awaits-silent : (k : ℕ) (begun : Begun) (past : List Sample) (e : ℕ) → Awaits k begun past e → first_heard past e ≡ None
 awaits-silent k begun past e (inl w) = w.silent
 awaits-silent k begun past e (inr w) = w.silent
 
+-- in time the message goes on
 pub no-ending : (k : ℕ) (begun : Begun) (shown : List Pair) (past : List Sample) (e : ℕ) → Awaits k begun past e → length past ≤ e + no_response →
     ending_after k begun.entry.item shown past (end_since k past begun.start) ≡ None
 no-ending k begun shown past e w early =
     awaits-by k begun shown past e awaited None w (reply-awaited k past e (awaits-silent k begun past e w) early) (λ is. refl)
     (λ is. absurd (cc)) (inl refl)
 
+-- later it ends without an answer
 pub silent-ends : (k : ℕ) (begun : Begun) (shown : List Pair) (past : List Sample) (e : ℕ) (w : Awaits k begun past e) → e + no_response < length past →
     ending_after k begun.entry.item shown past (end_since k past begun.start) ≡ Some (silent_ending k begun past e w)
 silent-ends k begun shown past e w late =

@@ -24,16 +24,19 @@ use Rattle.bus_law_control.proofs.Holding.{kept-tick}
 
 -- ---- control is kept
 
+-- control that was taken by a tick was taken by a later one
 taken-later : (heard now : ℕ) (takes : List Take) → AreTaken heard takes → heard ≤ now → AreTaken now takes
 taken-later heard now [] taken late = tt
 taken-later heard now (take ∷ takes) taken late = (omega (arith, taken.0, late), taken-later heard now takes taken.1 late)
 
 module _ (k : ℕ) (station : StationData) (starts : Bool) (loads : List TimedLoad) (outside : List OutsideTake) (past : List Pair) where
+  -- it is held after the newest of the ticks
   holds-last : (ticks : List Pair) → HoldsThrough k station starts loads outside past ticks →
       (course_with k station starts loads outside (so_far k station starts loads outside past).takes (ticks ++ past)).holds ≡ true
   holds-last [] holds = holds
   holds-last (shown ∷ ticks) holds = holds.0
 
+  -- so it isn't yielded in any of them
   pub keeps-through : (ticks : List Pair) → HoldsThrough k station starts loads outside past ticks → KeepsControl k station starts loads outside past ticks
   keeps-through [] holds = tt
   keeps-through (shown ∷ ticks) holds =
@@ -47,6 +50,7 @@ module _ (k : ℕ) (station : StationData) (starts : Bool) (loads : List TimedLo
 
 -- ---- its terminal
 
+-- either channel was quiet to it
 pub unheard-on : (c : Channel) (past : List Pair) → heard_on c (unheard_ticks past) ≡ quiet_ticks (length past)
 unheard-on c [] = refl
 unheard-on A (shown ∷ past) = ap (λ xs. Quiet ∷ xs) (unheard-on A past)
@@ -57,11 +61,13 @@ nones : List Pair → List Bool
 nones [] = []
 nones (shown ∷ past) = false ∷ nones past
 
+-- what wasn't heard counts as quiet
 unheard-quiet : (past : List Pair) → unheard_ticks past ≡ quiet_moments (nones past)
 unfolding nones
 unheard-quiet [] = refl
 unheard-quiet (shown ∷ past) = ap (λ ms. record { shown = quiet_pair; has_items = false } ∷ ms) (unheard-quiet past)
 
+-- nothing is due of a terminal at rest
 nothing-due : (k : ℕ) (t : TerminalData) (memory : Memory) (n : ℕ) → NothingDue k t (at_rest memory) [] n
 nothing-due k t memory n = record {
   rests_a = refl;
@@ -80,10 +86,12 @@ unheard-rests k t loads memory past =
 
 -- ---- a station that yields, in the ticks after
 
+-- the first of the ticks is heard first
 moments-last : (c : Course) (ticks : List Pair) (x : Pair) → moments_of c (ticks ++ x ∷ []) ≡ moments_of c ticks ++ moment_of x c ∷ []
 moments-last c [] x = refl
 moments-last c (shown ∷ ticks) x = ap (λ ms. moment_of shown c ∷ ms) (moments-last c ticks x)
 
+-- moments one after the other
 moments-twice : (before : StationSoFar) (xs ys : List Moment) → with_moments (with_moments before ys) xs ≡ with_moments before (xs ++ ys)
 moments-twice before xs ys =
     ap (λ ms. record before { hearing = record before.hearing { ticks = ms } }) (sym (append_assoc xs ys before.hearing.ticks))

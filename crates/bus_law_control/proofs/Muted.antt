@@ -32,6 +32,7 @@ use Rattle.bus_law_control.specs.Answers.{HearsQuiet}
 
 -- ---- quiet ticks on one channel
 
+-- a channel is quiet from their first on
 quiet-from : (n : ℕ) (past : List Sample) (t : ℕ) → length past ≤ t → IsQuietAt (quiet_ticks n ++ past) t
 quiet-from zero past t late = at-past past t late
 quiet-from (suc n) past t late = at-quiet (quiet_ticks n ++ past) t ∙ quiet-from n past t late
@@ -71,26 +72,32 @@ quiet-slot k past = refl
 
 -- ---- marks of transmissions
 
+-- the mark of a transmission
 pub sent-own : (s : Standing) (c : Channel) (m : Option ℕ) → mark_on (with_sent s c m).sent c ≡ m
 sent-own s A m = refl
 sent-own s B m = refl
 
+-- not on the other channel
 sent-other : (s : Standing) (c : Channel) (m : Option ℕ) → mark_on (with_sent s c m).sent (other_of c) ≡ mark_on s.sent (other_of c)
 sent-other s A m = refl
 sent-other s B m = refl
 
+-- with the mark that it had nothing changes
 sent-same : (s : Standing) (c : Channel) → with_sent s c (mark_on s.sent c) ≡ s
 sent-same s A = refl
 sent-same s B = refl
 
+-- what is heeded on the other channel doesn't depend on it
 pub unheeded-with : (k : ℕ) (t : TerminalData) (s : Standing) (c : Channel) (m : Option ℕ) (now : Moment) (past : List Moment) →
     IsUnheeded k t s (other_of c) (now ∷ past) → IsUnheeded k t (with_sent s c m) (other_of c) (now ∷ past)
 unheeded-with k t s c m now past (inl ignored) = inl (ap (ignored_from k (heard_on (other_of c) past)) (sent-other s c m) ∙ ignored)
 unheeded-with k t s c m now past (inr none) = inr none
 
+-- without a promise none runs out
 no-running : (k : ℕ) (t : TerminalData) (s : Standing) (past : List Moment) → is_promise s.duty ≡ false → running_out k t past s ≡ None
 no-running k t s past none = rw none refl
 
+-- a tick in which an answer begins and nothing else happens
 tick-begins : (k : ℕ) (t : TerminalData) (loads : List TimedLoad) (s : Standing) (c : Channel) (now : Moment) (past : List Moment) →
     order_now k t (now ∷ past) s ≡ None → begins k t past s ≡ true → same_channel s.channel c ≡ true → same_channel s.channel (other_of c) ≡ false →
     addressed_on k t (now ∷ past) s c ≡ mark_on s.addressed c → addressed_on k t (now ∷ past) s (other_of c) ≡ mark_on s.addressed (other_of c) →
@@ -102,12 +109,15 @@ tick-begins k t loads s B now past none begun on off own other =
 
 -- ---- a quiet tick on the channel of an answer that is owed
 
+-- equal lists have equal heads
 same-head : (x y : Sample) (xs ys : List Sample) → (x ∷ xs) ≡ (y ∷ ys) → x ≡ y
 same-head x y xs ys same = cc
 
+-- and equal tails
 same-tail : (x y : Sample) (xs ys : List Sample) → (x ∷ xs) ≡ (y ∷ ys) → xs ≡ ys
 same-tail x y xs ys same = cc
 
+-- a tick less is quiet too
 pub fewer : (k : ℕ) (t : TerminalData) (s : Standing) (c : Channel) (heard ticks : List Moment) (now : Moment) → HearsQuiet k t s c heard (now ∷ ticks) →
     HearsQuiet k t s c heard ticks
 fewer k t s c heard ticks now hears = record {
@@ -117,20 +127,25 @@ fewer k t s c heard ticks now hears = record {
 }
 
 module _ (k : ℕ) (t : TerminalData) (s : Standing) (c : Channel) (heard : List Moment) where
+  -- the channel with these ticks
   pub quiet-past : (ticks : List Moment) → HearsQuiet k t s c heard ticks → heard_on c (ticks ++ heard) ≡ quiet_ticks (length ticks) ++ heard_on c heard
   quiet-past ticks hears = heard-append c ticks heard ∙ ap (λ xs. xs ++ heard_on c heard) hears.quiet
 
+  -- no burst runs there
   rests-past : (ticks : List Moment) → HearsQuiet k t s c heard ticks → runs k (heard_on c (ticks ++ heard)) ≡ false
   rests-past ticks hears = ap (runs k) (quiet-past ticks hears) ∙ rests-quiet k (length ticks) (heard_on c heard) hears.rests
 
+  -- the newest tick is quiet
   quiet-now : (ticks : List Moment) (now : Moment) → HearsQuiet k t s c heard (now ∷ ticks) → sample_on now.shown c ≡ Quiet
   quiet-now ticks now hears = same-head (sample_on now.shown c) Quiet (heard_on c ticks) (quiet_ticks (length ticks)) hears.quiet
 
+  -- no burst ends in it
   pub none-ends : (ticks : List Moment) (now : Moment) → HearsQuiet k t s c heard (now ∷ ticks) → ended_now k (heard_on c (now ∷ (ticks ++ heard))) ≡ None
   none-ends ticks now hears =
       ap (λ x. ended_now k (x ∷ heard_on c (ticks ++ heard))) (quiet-now ticks now hears)
       ∙ ended-quiet k (heard_on c (ticks ++ heard)) (rests-past ticks (fewer k t s c heard ticks now hears))
 
+  -- nor a slot
   no-slot : (ticks : List Moment) (now : Moment) → HearsQuiet k t s c heard (now ∷ ticks) → slot_now k (heard_on c (now ∷ (ticks ++ heard))) ≡ None
   no-slot ticks now hears =
       ap (λ x. slot_now k (x ∷ heard_on c (ticks ++ heard))) (quiet-now ticks now hears) ∙ quiet-slot k (heard_on c (ticks ++ heard))
@@ -149,6 +164,7 @@ module _ (k : ℕ) (t : TerminalData) (s : Standing) (c : Channel) (heard : List
       (unheeded-with k t s c m now past hears.beside.0))
       (no-running k t u (now ∷ past) none)
 
+  -- nor is a slot marked there
   own-marked : (m : Option ℕ) (ticks : List Moment) (now : Moment) → HearsQuiet k t s c heard (now ∷ ticks) →
       addressed_on k t (now ∷ (ticks ++ heard)) (with_sent s c m) c ≡ mark_on (with_sent s c m).addressed c
   own-marked m ticks now hears =
@@ -157,11 +173,13 @@ module _ (k : ℕ) (t : TerminalData) (s : Standing) (c : Channel) (heard : List
       mark-kept (is_addressed t.address (slot_now k (heard_on c (now ∷ past)))) (ignored_from k (heard_on c past) (mark_on u.sent c)) (length past)
       (mark_on u.addressed c) (inr (ap (is_addressed t.address) (no-slot ticks now hears)))
 
+  -- nor on the other channel
   other-marked : (m : Option ℕ) (ticks : List Moment) (now : Moment) → HearsQuiet k t s c heard (now ∷ ticks) →
       addressed_on k t (now ∷ (ticks ++ heard)) (with_sent s c m) (other_of c) ≡ mark_on (with_sent s c m).addressed (other_of c)
   other-marked m ticks now hears =
       mark-unheeded k t (with_sent s c m) (other_of c) now (ticks ++ heard) (unheeded-with k t s c m now (ticks ++ heard) hears.beside.0)
 
+-- the first tick marks the transmission alone
 first-quiet : (k : ℕ) (t : TerminalData) (loads : List TimedLoad) (s : Standing) (c : Channel) (now : Moment) (heard : List Moment) →
     BeginsAnswer k t s c heard → HearsQuiet k t s c heard (now ∷ []) → after_tick k t loads now heard s ≡ with_sent s c (Some (length heard))
 first-quiet k t loads s c now heard answer hears =
@@ -176,6 +194,7 @@ first-quiet k t loads s c now heard answer hears =
     (own-marked k t s c heard (mark_on s.sent c) [] now hears))
     (mark-unheeded k t s (other_of c) now heard hears.beside.0)
 
+-- a later one changes nothing
 later-quiet : (k : ℕ) (t : TerminalData) (loads : List TimedLoad) (s : Standing) (c : Channel) (now first : Moment) (heard ticks : List Moment) (m : Option ℕ) →
     BeginsAnswer k t s c heard → HearsQuiet k t s c heard (now ∷ first ∷ ticks) →
     after_tick k t loads now ((first ∷ ticks) ++ heard) (with_sent s c m) ≡ with_sent s c m
@@ -191,6 +210,7 @@ later-quiet k t loads s c now first heard ticks m answer hears =
     (own-marked k t s c heard m (first ∷ ticks) now hears)
     ∙ same-mark u c
 
+-- so it stands after all of them
 pub muted-stands : (k : ℕ) (t : TerminalData) (loads : List TimedLoad) (memory : Memory) (c : Channel) (heard ticks : List Moment) (first : Moment) →
     BeginsAnswer k t (standing k t loads memory heard) c heard → HearsQuiet k t (standing k t loads memory heard) c heard (first ∷ ticks) →
     standing k t loads memory ((first ∷ ticks) ++ heard) ≡ with_sent (standing k t loads memory heard) c (Some (length heard))
@@ -202,6 +222,7 @@ muted-stands k t loads memory c heard (before ∷ ticks) first answer hears =
     (muted-stands k t loads memory c heard ticks before answer (fewer k t s c heard (before ∷ ticks) first hears))
     ∙ later-quiet k t loads s c first before heard ticks (Some (length heard)) answer hears
 
+-- with some mark, also before the first
 muted-mark : (k : ℕ) (t : TerminalData) (loads : List TimedLoad) (memory : Memory) (c : Channel) (heard ticks : List Moment) →
     BeginsAnswer k t (standing k t loads memory heard) c heard → HearsQuiet k t (standing k t loads memory heard) c heard ticks →
     (m : Option ℕ) × (standing k t loads memory (ticks ++ heard) ≡ with_sent (standing k t loads memory heard) c m)
@@ -212,15 +233,18 @@ muted-mark k t loads memory c heard (first ∷ ticks) answer hears = (Some (leng
 -- ---- how long it sends
 
 module _ (k : ℕ) (t : TerminalData) (s : Standing) (c : Channel) (heard ticks : List Moment) (hears : HearsQuiet k t s c heard ticks) where
+  -- where what began with them has its end
   end-so : (o : Option ℕ) → end_since k (quiet_ticks (length ticks) ++ heard_on c heard) (length (heard_on c heard)) ≡ o →
       end_since k (heard_on c (ticks ++ heard)) (length heard) ≡ o
   end-so o is =
       ap (λ xs. end_since k xs (length heard)) (quiet-past k t s c heard ticks hears)
       ∙ ap (end_since k (quiet_ticks (length ticks) ++ heard_on c heard)) (sym (heard-long c heard)) ∙ is
 
+  -- the channel is ignored for k of them
   pub muted-ignores : length ticks ≤ k → ignored_from k (heard_on c (ticks ++ heard)) (Some (length heard)) ≡ true
   muted-ignores few = ap is_none (end-so None (quiet-endless k (length ticks) (heard_on c heard) few))
 
+  -- and heeded again after k + 1
   pub muted-heeds : k < length ticks → ignored_from k (heard_on c (ticks ++ heard)) (Some (length heard)) ≡ false
   muted-heeds many = ap is_none (end-so (Some (length (heard_on c heard))) (quiet-ends k (length ticks) (heard_on c heard) many))
 
@@ -264,6 +288,7 @@ module _ (k : ℕ) (t : TerminalData) (s : Standing) (c : Channel) (heard ticks 
 
 -- ---- the terminal
 
+-- for k ticks it sends
 pub mute-sends : (k : ℕ) (t : TerminalData) (loads : List TimedLoad) (memory : Memory) (c : Channel) (heard ticks : List Moment)
     (words : List Word) (acceptance : Bool) → BeginsAnswer k t (standing k t loads memory heard) c heard →
     HearsQuiet k t (standing k t loads memory heard) c heard ticks → (standing k t loads memory heard).duty ≡ owes words acceptance → length ticks ≤ k →
@@ -274,6 +299,7 @@ mute-sends k t loads memory c heard ticks words acceptance answer hears duty few
     ap (λ (u : Standing). drive_duty k t (heard_on u.channel (ticks ++ heard)) u u.duty) m.1
     ∙ muted-sends k t s c heard ticks hears answer m.0 words acceptance duty few
 
+-- and then it doesn't
 pub mute-silent : (k : ℕ) (t : TerminalData) (loads : List TimedLoad) (memory : Memory) (c : Channel) (heard ticks : List Moment) →
     BeginsAnswer k t (standing k t loads memory heard) c heard → HearsQuiet k t (standing k t loads memory heard) c heard ticks → k < length ticks →
     drives k t loads record { memory = memory; ticks = ticks ++ heard } ≡ Silent
@@ -283,6 +309,7 @@ mute-silent k t loads memory c heard ticks answer hears many =
     ap (λ (u : Standing). drive_duty k t (heard_on u.channel (ticks ++ heard)) u u.duty) m.1
     ∙ muted-off k t s c heard ticks hears answer m.0 s.duty many
 
+-- no control is accepted without the end of a burst
 accepts-none : (k : ℕ) (t : TerminalData) (loads : List TimedLoad) (past : List Sample) (x : Sample) (s : Standing) (duty : Duty) →
     ended_now k (x ∷ past) ≡ None → accepted_by k t loads past x s duty ≡ None
 accepts-none k t loads past x s free none = refl
@@ -291,6 +318,7 @@ accepts-none k t loads past x s (owes words false) none = refl
 accepts-none k t loads past x s (owes words true) none =
     either-none (given_up k t past s) (heard_status (due_after t s.end) (ended_now k (x ∷ past))) (ap (heard_status (due_after t s.end)) none)
 
+-- and no block is taken
 pub mute-takes : (k : ℕ) (t : TerminalData) (loads : List TimedLoad) (memory : Memory) (c : Channel) (heard ticks : List Moment) (now : Moment) →
     BeginsAnswer k t (standing k t loads memory heard) c heard → HearsQuiet k t (standing k t loads memory heard) c heard (now ∷ ticks) →
     (took_now k t loads record { memory = memory; ticks = (now ∷ ticks) ++ heard } ≡ None)

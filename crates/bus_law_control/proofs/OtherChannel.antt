@@ -29,12 +29,15 @@ use Rattle.bus_law_stations.proofs.Ready.{own-mark, moments-append}
 use Rattle.bus_law_stations.proofs.Obeying.{marking}
 use Rattle.bus_law_control.proofs.Accepting.{kept-later}
 
+-- none is not some
 none-some : {X : Type 0} (x : X) → None ≡ Some x → ⊥
 none-some x e = cc
 
+-- equal options have equal values
 some-same : {X : Type 0} (x y : X) → Some x ≡ Some y → x ≡ y
 some-same x y e = cc
 
+-- not some is none
 some-not : {X : Type 0} (o : Option X) → is_some o ≡ false → o ≡ None
 some-not None none = refl
 some-not (Some x) none = absurd (true≢false none)
@@ -69,6 +72,7 @@ ignored-before k now past first none = elim (cases-option (end_since k past firs
   | inr found ↦ absurd (none-some found.0 (sym none ∙ end_since-later k (now ∷ []) past first found.0 found.1))
 ]
 
+-- isn't heeded to the tick in which the end of what was sent is known
 pub ignored-unheeded : (k : ℕ) (t : TerminalData) (s : Standing) (c : Channel) (heard ticks : List Moment) (now : Moment) (first : ℕ) →
     mark_on s.sent c ≡ Some first → end_since k (heard_on c (ticks ++ heard)) first ≡ None → AreUnheeded k t s c heard (now ∷ ticks)
 ignored-unheeded k t s c heard [] now first sent endless = (inl (ap (ignored_from k (heard_on c heard)) sent ∙ ap is_none endless), tt)
@@ -79,11 +83,13 @@ ignored-unheeded k t s c heard (x ∷ ticks) now first sent endless = (
 
 -- ---- a burst without a command for the terminal
 
+-- no burst ends while one runs
 leg-none : (k : ℕ) (c : Channel) (heard ticks : List Moment) (now : Moment) → InLeg k (heard_on c (now ∷ ticks)) →
     ended_now k (heard_on c (now ∷ (ticks ++ heard))) ≡ None
 leg-none k c heard ticks now leg =
     ap (ended_now k) (heard-append c (now ∷ ticks) heard) ∙ leg-ends-not k (sample_on now.shown c) (heard_on c ticks) (heard_on c heard) leg
 
+-- so far
 pub leg-unheeded : (k : ℕ) (t : TerminalData) (s : Standing) (c : Channel) (heard ticks : List Moment) → k < 40 → InLeg k (heard_on c ticks) →
     last_order t.address (running_slots k (heard_on c (ticks ++ heard))) ≡ None → AreUnheeded k t s c heard ticks
 leg-unheeded k t s c heard [] small leg none = tt
@@ -97,6 +103,7 @@ leg-unheeded k t s c heard (now ∷ ticks) small leg none =
       leg-unheeded k t s c heard ticks small leg.2 (some-not (last_order t.address (running_slots k past)) parts.1),
     )
 
+-- and to its end
 pub whole-unheeded : (k : ℕ) (t : TerminalData) (s : Standing) (c : Channel) (heard ticks : List Moment) (now : Moment) (burst : Burst) → k < 40 →
     InLeg k (heard_on c ticks) → ended_now k (heard_on c (now ∷ (ticks ++ heard))) ≡ Some burst → last_order t.address burst.slots ≡ None →
     AreUnheeded k t s c heard (now ∷ ticks)
@@ -153,21 +160,25 @@ duty-silent k t s past (owes words acceptance) given =
     or_left _ (is_over k t past s) (or_right early _ given) in
     rw test refl
 
+-- an answer that is superseded is not sent
 pub given-silent : (k : ℕ) (t : TerminalData) (s : Standing) (past : List Moment) → superseded k s ≡ true → drive_of k t past s ≡ Silent
 given-silent k t s past super = duty-silent k t s (heard_on s.channel past) s.duty (or_left _ _ super)
 
 -- ---- beside a burst on the other channel
 
+-- the other channel of the other channel
 other-twice : (c : Channel) → other_of (other_of c) ≡ c
 other-twice A = refl
 other-twice B = refl
 
+-- a mark on the other channel decides whether it is superseded
 super-by : (k : ℕ) (s : Standing) (c : Channel) (m : Option ℕ) → s.channel ≡ other_of c → superseded k (with_addressed s c m) ≡ is_from (s.end + k) m
 super-by k s c m on =
     ap (λ x. is_from (s.end + k) (mark_on (with_addressed s c m).addressed (other_of x))) on
     ∙ ap (λ x. is_from (s.end + k) (mark_on (with_addressed s c m).addressed x)) (other-twice c)
     ∙ ap (is_from (s.end + k)) (own-mark s c m)
 
+-- as before
 super-old : (k : ℕ) (s : Standing) (c : Channel) → s.channel ≡ other_of c → superseded k s ≡ is_from (s.end + k) (mark_on s.addressed c)
 super-old k s c on =
     ap (λ x. is_from (s.end + k) (mark_on s.addressed (other_of x))) on ∙ ap (λ x. is_from (s.end + k) (mark_on s.addressed x)) (other-twice c)
@@ -178,6 +189,7 @@ module _ (k : ℕ) (t : TerminalData) (loads : List TimedLoad) (memory : Memory)
     (late : (standing k t loads memory heard).end + k ≤ length heard)
     (kept : given_up k t (heard_on (other_of c) heard) (standing k t loads memory heard) ≡ false)
     (endless : end_since k (heard_on (other_of c) (ticks ++ heard)) (due_after t (standing k t loads memory heard).end) ≡ None) where
+  -- what stands of the terminal as the burst begins
   abbrev s : Standing
   s = standing k t loads memory heard
 
@@ -203,6 +215,7 @@ module _ (k : ℕ) (t : TerminalData) (loads : List TimedLoad) (memory : Memory)
       given-silent k t (with_addressed s c (Some tick)) (ticks ++ heard)
       (super-by k s c (Some tick) on ∙ le-leb (s.end + k) tick (omega (arith, late, after)))
 
+  -- so the mark decides
   by-mark : (m : Option ℕ) (b : Bool) → is_some m ≡ b → ((tick : ℕ) → m ≡ Some tick → length heard ≤ tick) →
       drive_of k t (ticks ++ heard) (with_addressed s c (option_or m (mark_on s.addressed c)))
       ≡ (if b then Silent else drive_sample (other_of c) s.part words (length (ticks ++ heard) - due_after t s.end))
@@ -211,6 +224,7 @@ module _ (k : ℕ) (t : TerminalData) (loads : List TimedLoad) (memory : Memory)
   by-mark (Some tick) true is within = sends-no-more tick (within tick refl)
   by-mark (Some tick) false is within = absurd (true≢false is)
 
+  -- so the slots that ended decide
   pub beside-sends : k < 40 → IsReady k t s c heard → HearsBurst k t s c heard ticks →
       drives k t loads record { memory = memory; ticks = ticks ++ heard }
       ≡ (if is_some (last_order t.address (running_slots k (heard_on c (ticks ++ heard)))) then Silent

@@ -23,18 +23,22 @@ use Rattle.bus_law_stations.proofs.StillController.{Awaits, known, whole-stays}
 use Rattle.bus_law_stations.proofs.Commanding.{pairs-append}
 use Rattle.bus_law_control.proofs.Endings.{ends-so, goes-on, sends-nothing, silent_ending, no-ending, silent-ends}
 
+-- equal lists have equal heads
 same-head : (x y : Sample) (xs ys : List Sample) → (x ∷ xs) ≡ (y ∷ ys) → x ≡ y
 same-head x y xs ys same = cc
 
+-- and equal tails
 same-tail : (x y : Sample) (xs ys : List Sample) → (x ∷ xs) ≡ (y ∷ ys) → xs ≡ ys
 same-tail x y xs ys same = cc
 
 -- ---- the wait
 
+-- none on either branch
 heard-not : (b : Bool) (o : Option ℕ) → o ≡ None → (if b then None else o) ≡ None
 heard-not true o none = refl
 heard-not false o none = none
 
+-- nothing is heard in quiet ticks
 unheard-quiet : (n : ℕ) (past : List Sample) (e : ℕ) → first_heard past e ≡ None → first_heard (quiet_ticks n ++ past) e ≡ None
 unfolding first_heard
 unheard-quiet zero past e none = none
@@ -42,6 +46,7 @@ unheard-quiet (suc n) past e none =
     let xs = quiet_ticks n ++ past in
     heard-not (nat_lt (length xs) e) (heard_or_now Quiet (length xs) (first_heard xs e)) (ap (heard_or_now Quiet (length xs)) (unheard-quiet n past e none))
 
+-- a message that waits for its first answer waits on
 first-quiet : (k : ℕ) (begun : Begun) (n : ℕ) (past : List Sample) (e : ℕ) → AwaitsFirst k begun past e → AwaitsFirst k begun (quiet_ticks n ++ past) e
 first-quiet k begun n past e w = record {
   ended = end_since-later k (quiet_ticks n) past begun.start e w.ended;
@@ -50,6 +55,7 @@ first-quiet k begun n past e w = record {
   silent = unheard-quiet n past e w.silent;
 }
 
+-- an answer that is whole stays whole
 whole-quiet : (k n : ℕ) (past : List Sample) (e : ℕ) (burst : Burst) → reply k past e ≡ whole burst → reply k (quiet_ticks n ++ past) e ≡ whole burst
 whole-quiet k zero past e burst is = is
 whole-quiet k (suc n) past e burst is = whole-stays k Quiet (quiet_ticks n ++ past) e burst (whole-quiet k n past e burst is)
@@ -58,6 +64,7 @@ whole-quiet k (suc n) past e burst is = whole-stays k Quiet (quiet_ticks n ++ pa
 abbrev pub AwaitsWith : ℕ → Begun → List Sample → ℕ → ℕ → Type 0
 AwaitsWith k begun past e status = (w : AwaitsSecond k begun past e) × (w.status ≡ status)
 
+-- so does one that waits for its second
 second-quiet : (k : ℕ) (begun : Begun) (n : ℕ) (past : List Sample) (e : ℕ) (w : AwaitsSecond k begun past e) →
     AwaitsWith k begun (quiet_ticks n ++ past) e w.status
 second-quiet k begun n past e w = (
@@ -78,22 +85,26 @@ second-quiet k begun n past e w = (
   refl,
 )
 
+-- its channel with quiet ticks
 own-past : (channel : Channel) (past ticks : List Pair) → on_channel channel ticks ≡ quiet_ticks (length ticks) →
     quiet_ticks (length ticks) ++ on_channel channel past ≡ on_channel channel (ticks ++ past)
 own-past channel past ticks still = sym (on-append channel ticks past ∙ ap (λ xs. xs ++ on_channel channel past) still)
 
+-- over ticks in which its own channel is quiet
 pub first-own : (k : ℕ) (begun : Begun) (past ticks : List Pair) (e : ℕ) → on_channel begun.state.channel ticks ≡ quiet_ticks (length ticks) →
     AwaitsFirst k begun (on_channel begun.state.channel past) e → AwaitsFirst k begun (on_channel begun.state.channel (ticks ++ past)) e
 first-own k begun past ticks e still w =
     subst (λ xs. AwaitsFirst k begun xs e) (own-past begun.state.channel past ticks still)
     (first-quiet k begun (length ticks) (on_channel begun.state.channel past) e w)
 
+-- likewise
 pub second-own : (k : ℕ) (begun : Begun) (past ticks : List Pair) (e : ℕ) → on_channel begun.state.channel ticks ≡ quiet_ticks (length ticks) →
     (w : AwaitsSecond k begun (on_channel begun.state.channel past) e) → AwaitsWith k begun (on_channel begun.state.channel (ticks ++ past)) e w.status
 second-own k begun past ticks e still w =
     subst (λ xs. AwaitsWith k begun xs e w.status) (own-past begun.state.channel past ticks still)
     (second-quiet k begun (length ticks) (on_channel begun.state.channel past) e w)
 
+-- for either answer
 awaits-own : (k : ℕ) (begun : Begun) (past ticks : List Pair) (e : ℕ) → on_channel begun.state.channel ticks ≡ quiet_ticks (length ticks) →
     Awaits k begun (on_channel begun.state.channel past) e → Awaits k begun (on_channel begun.state.channel (ticks ++ past)) e
 awaits-own k begun past ticks e still (inl w) = inl (first-own k begun past ticks e still w)
@@ -102,6 +113,7 @@ awaits-own k begun past ticks e still (inr w) = inr (second-own k begun past tic
 module _ (k : ℕ) (station : StationData) (starts : Bool) (takes : List Take) (past : List Pair) (begun : Begun) (e : ℕ)
     (taken : AreTaken (length past) takes) (runs : (course k station starts takes past).runs ≡ Some begun)
     (awaits : Awaits k begun (on_channel begun.state.channel past) e) where
+  -- nothing changes in time
   pub own-waits : (ticks : List Pair) → on_channel begun.state.channel ticks ≡ quiet_ticks (length ticks) → length past + length ticks ≤ e + no_response →
       course k station starts takes (ticks ++ past) ≡ course k station starts takes past
   own-waits [] still early = refl
@@ -114,6 +126,7 @@ module _ (k : ℕ) (station : StationData) (starts : Bool) (takes : List Take) (
       (no-ending k begun later (on_channel begun.state.channel later) e (awaits-own k begun past (x ∷ ticks) e still awaits)
       (omega (arith, long, both, early)))
 
+  -- and nothing is sent
   pub own-silent : (ticks : List Pair) → on_channel begun.state.channel ticks ≡ quiet_ticks (length ticks) → length past + length ticks ≤ e + no_response →
       drive_course k (ticks ++ past) (course k station starts takes (ticks ++ past)) ≡ Silent
   own-silent ticks still early =
@@ -136,6 +149,7 @@ module _ (k : ℕ) (station : StationData) (starts : Bool) (takes : List Take) (
 
 module _ (k : ℕ) (station : StationData) (starts : Bool) (takes : List Take) (past : List Pair) (begun : Begun) (e : ℕ)
     (taken : AreTaken (length past) takes) (runs : (course k station starts takes past).runs ≡ Some begun) where
+  -- a first answer that never comes
   pub first-over : AwaitsFirst k begun (on_channel begun.state.channel past) e → (x : Pair) (ticks : List Pair) →
       on_channel begun.state.channel (x ∷ ticks) ≡ quiet_ticks (length (x ∷ ticks)) → length past + length ticks ≡ e + no_response →
       course k station starts takes ((x ∷ ticks) ++ past)
@@ -143,6 +157,7 @@ module _ (k : ℕ) (station : StationData) (starts : Bool) (takes : List Take) (
   first-over w x ticks still at =
       own-over k station starts takes past begun e taken runs (inl w) x ticks still at (inl (first-own k begun past (x ∷ ticks) e still w))
 
+  -- a second one
   pub second-over : (w : AwaitsSecond k begun (on_channel begun.state.channel past) e) (x : Pair) (ticks : List Pair) →
       on_channel begun.state.channel (x ∷ ticks) ≡ quiet_ticks (length (x ∷ ticks)) → length past + length ticks ≡ e + no_response →
       course k station starts takes ((x ∷ ticks) ++ past)

@@ -38,6 +38,13 @@ pub fn a_controller_abandons_in_its_tick()
         course k station starts takes shown ≡ close c begun (without_words Abandoned None None) (length (ticks ++ past)) }
 {}
 
+/// A message that may not be abandoned isn't, nor one before its tick.
+pub fn a_message_is_not_abandoned_before_its_tick()
+    ensures never { (begun : Begun) (past ticks : List Pair) (e : ℕ) → begun.entry.item.abandon ≡ None → AreKept begun e past ticks }
+    ensures early { (begun : Begun) (past ticks : List Pair) (e n : ℕ) → begun.entry.item.abandon ≡ Some n → length (ticks ++ past) < e + n →
+        AreKept begun e past ticks }
+{}
+
 /// An answer that isn't abandoned is read with its end. A relay's second answer isn't abandoned at all. At every lag below the wait for an answer.
 pub fn an_answer_that_is_not_abandoned_is_read()
     ensures first { (k : ℕ) (station : StationData) (starts : Bool) (takes : List Take) (past ticks : List Pair) (now : Pair) (begun : Begun) (e : ℕ)

@@ -24,7 +24,7 @@ pub fn an_answer_is_sent_on_beside_a_burst()
     ensures beside { (k : ℕ) (terminal : TerminalData) (loads : List TimedLoad) (memory : Memory) (c : Channel) (heard ticks : List Moment)
         (words : List Word) (acceptance : Bool) → let s = standing k terminal loads memory heard in k < 40 →
         IsReady k terminal s c heard → HearsBurst k terminal s c heard ticks → s.duty ≡ owes words acceptance → s.channel ≡ other_of c →
-        due_after terminal s.end ≤ length heard → s.end + k ≤ length heard → given_up k terminal (heard_on (other_of c) heard) s ≡ false →
+        s.end + k ≤ length heard → given_up k terminal (heard_on (other_of c) heard) s ≡ false →
         end_since k (heard_on (other_of c) (ticks ++ heard)) (due_after terminal s.end) ≡ None →
         drives k terminal loads record { memory = memory; ticks = ticks ++ heard }
         ≡ (if is_some (last_order terminal.address (running_slots k (heard_on c (ticks ++ heard)))) then Silent

@@ -12,7 +12,7 @@ pub mod waiting;
 
 pub use abandoning::{
     a_controller_abandons_in_its_tick, a_message_ends_as_its_answer_is_read,
-    an_answer_that_is_not_abandoned_is_read,
+    a_message_is_not_abandoned_before_its_tick, an_answer_that_is_not_abandoned_is_read,
 };
 pub use answers::a_mute_answer_is_over;
 pub use beside::{

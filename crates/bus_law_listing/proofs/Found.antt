@@ -17,14 +17,17 @@ use Rattle.bus_law_listing.specs.Listing.{burst_found, found_in_order, EndBefore
 use Rattle.bus_law_listing.proofs.Members.{Each, Pairs, has-each, each-more, has-contains, pairs-all, pairs-across}
 use Rattle.bus_law_listing.proofs.Ordered.{Before, order-each, order-append, order-same, strictly-before, map-order}
 
+-- the tick after a burst, and its channel: by them bursts are in order
 abbrev pub end_in : WholeBurst → ℕ
 end_in whole = end_of whole.burst
 
+-- its channel
 abbrev pub channel_in : WholeBurst → Channel
 channel_in whole = whole.channel
 
 -- ---- one list after the other
 
+-- where all of one list ended before all of the other, each is put in order by itself
 pub found-splits : (xs ys : List WholeBurst) → EndBefore xs ys → found_in_order (xs ++ ys) ≡ found_in_order xs ++ found_in_order ys
 found-splits xs ys before = order-append end_in channel_in xs ys
     (has-each (λ x. Each (Before end_in channel_in x) ys) xs (λ x in_x.
@@ -34,6 +37,7 @@ found-splits xs ys before = order-append end_in channel_in xs ys
 pub strict-bursts : (k : ℕ) (past : List Pair) → Pairs EndsBefore (bursts k past)
 strict-bursts k past = pairs-all EndsBefore (bursts k past) (bursts-order k past)
 
+-- so they are in order
 pub found-same : (k : ℕ) (past : List Pair) → found_in_order (bursts k past) ≡ bursts k past
 found-same k past = order-same end_in channel_in (bursts k past) (strict-bursts k past)
 
@@ -52,9 +56,11 @@ found-joined k past xs ys same =
 
 -- ---- as a monitor hears them
 
+-- a slot more is counted where it has a word
 count-more : (slot : Option Word) (slots : List (Option Word)) → count_by is_some (slot ∷ slots) ≡ (if is_some slot then 1 else 0) + count_by is_some slots
 count-more slot slots = sum_by-cons (λ o. if is_some o then 1 else 0) slot slots
 
+-- the slots with a word are as many as the words
 valid-count : (c : Channel) (t : ℕ) (slots : List (Option Word)) → count_by is_some slots ≡ length (table.words_from c t slots)
 valid-count c t [] = refl
 valid-count c t (None ∷ slots) =
@@ -64,9 +70,11 @@ valid-count c t (Some word ∷ slots) =
     let rest : count_by is_some slots ≡ length (table.words_from c (t + 40) slots) = valid-count c (t + 40) slots in
     let more : count_by is_some (Some word ∷ slots) ≡ 1 + count_by is_some slots = count-more (Some word) slots in omega (arith, more, rest)
 
+-- a burst of the table is heard as it is found
 heard-same : (b : ShownBurst) → world.heard_burst (burst_found b) ≡ table.heard_burst b
 heard-same b = let same = valid-count b.channel b.start b.slots in rw same refl
 
+-- so are they all
 heard-all : (bs : List ShownBurst) → map world.heard_burst (map burst_found bs) ≡ map table.heard_burst bs
 heard-all [] = refl
 heard-all (b ∷ bs) = ap (λ h. h ∷ map world.heard_burst (map burst_found bs)) (heard-same b) ∙ ap (λ hs. table.heard_burst b ∷ hs) (heard-all bs)

@@ -10,6 +10,7 @@ use Rattle.bus_law_listing.proofs.Members.{Has, Each, Pairs, each-has, has-each,
 
 -- ---- lists with the same members
 
+-- the members after the first are among those after the first
 same-tails : {X : Type 0} (R : X → X → Type 0) (x : X) (xs ys : List X) → ((a b : X) → R a b → R b a → ⊥) → Each (R x) xs →
     Each (Has (x ∷ ys)) xs → Each (Has ys) xs
 same-tails R x xs ys strict later each = has-each (Has ys) xs (λ z at. elim (each-has (Has (x ∷ ys)) xs z each at) [
@@ -48,26 +49,31 @@ module _ {X : Type 0} (tick_of : X → ℕ) (channel_of : X → Channel) where
   abbrev pub Apart : X → X → Type 0
   Apart x y = channel_of x ≡ channel_of y → tick_of x ≡ tick_of y → ⊥
 
+  -- of two entries one alone stands before the other
   pub not-both : (x y : X) → Strictly x y → Strictly y x → ⊥
   not-both x y (inl a) (inl b) = omega (arith, a, b)
   not-both x y (inl a) (inr b) = omega (arith, a, b.0)
   not-both x y (inr a) (inl b) = omega (arith, a.0, b)
   not-both x y (inr a) (inr b) = (let bad : A ≡ B = sym a.1 ∙ b.2 in absurd (cc))
 
+  -- what stands before one that stands before a third stands before that
   pub in-turn : (x y z : X) → Strictly x y → Strictly y z → Strictly x z
   in-turn x y z (inl a) (inl b) = inl (omega (arith, a, b))
   in-turn x y z (inl a) (inr b) = inl (omega (arith, a, b.0))
   in-turn x y z (inr a) (inl b) = inl (omega (arith, a.0, b))
   in-turn x y z (inr a) (inr b) = (let bad : A ≡ B = sym b.1 ∙ a.2 in absurd (cc))
 
+  -- the test of the order holds there
   strictly-by : (t u : ℕ) (c d : Channel) → (t < u) ⊎ ((t ≡ u) × (c ≡ A) × (d ≡ B)) → is_before t c u ≡ true
   strictly-by t u c d (inl less) = grind (arith, nat_tests, less)
   strictly-by t u A d (inr both) = (let e = both.0 in grind (arith, nat_tests, e))
   strictly-by t u B d (inr both) = (let bad = both.1 in absurd (cc))
 
+  -- for two entries
   pub strictly-before : (x y : X) → Strictly x y → is_before (tick_of x) (channel_of x) (tick_of y) ≡ true
   strictly-before x y is = strictly-by (tick_of x) (tick_of y) (channel_of x) (channel_of y) is
 
+  -- where it holds, one stands strictly before the other, if they are apart
   before-by : (t u : ℕ) (c d : Channel) → (c ≡ d → t ≡ u → ⊥) → is_before t c u ≡ true → (t < u) ⊎ ((t ≡ u) × (c ≡ A) × (d ≡ B))
   before-by t u A A apart test = inl (let h = apart refl in grind (arith, nat_tests, h, test))
   before-by t u A B apart test = elim (cases_Bool (nat_lt t u)) [
@@ -76,6 +82,7 @@ module _ {X : Type 0} (tick_of : X → ℕ) (channel_of : X → Channel) where
   ]
   before-by t u B d apart test = inl (grind (arith, nat_tests, test))
 
+  -- and where it doesn't, after it
   after-by : (t u : ℕ) (c d : Channel) → (c ≡ d → t ≡ u → ⊥) → is_before t c u ≡ false → (u < t) ⊎ ((u ≡ t) × (d ≡ A) × (c ≡ B))
   after-by t u A d apart test = inl (grind (arith, nat_tests, test))
   after-by t u B B apart test = inl (let h = apart refl in grind (arith, nat_tests, h, test))
@@ -86,30 +93,36 @@ module _ {X : Type 0} (tick_of : X → ℕ) (channel_of : X → Channel) where
 
   -- ---- members
 
+  -- each entry of either list
   by-test : (P : X → Type 0) (b : Bool) (xs ys : List X) → Each P xs → Each P ys → Each P (if b then xs else ys)
   by-test P true xs ys a b = a
   by-test P false xs ys a b = b
 
+  -- with one entry more
   pub each-entry : (P : X → Type 0) (entry : X) (others : List X) → P entry → Each P others → Each P (with_entry tick_of channel_of entry others)
   each-entry P entry [] one each = (one, tt)
   each-entry P entry (other ∷ others) one each =
       by-test P (is_before (tick_of entry) (channel_of entry) (tick_of other)) _ _ (one, each) (each.0, each-entry P entry others one each.1)
 
+  -- of a list in order
   pub each-order : (P : X → Type 0) (xs : List X) → Each P xs → Each P (in_order tick_of channel_of xs)
   each-order P [] each = tt
   each-order P (x ∷ xs) each = each-entry P x (in_order tick_of channel_of xs) each.0 (each-order P xs each.1)
 
+  -- each entry of a list with one more is that one or one of the others
   of-test : (P : X → Type 0) (b : Bool) (entry other : X) (others rest : List X) → (Each P rest → P entry × Each P others) →
       Each P (if b then entry ∷ other ∷ others else other ∷ rest) → P entry × Each P (other ∷ others)
   of-test P true entry other others rest tell each = each
   of-test P false entry other others rest tell each = let more = tell each.1 in (more.0, (each.0, more.1))
 
+  -- by insertion
   pub entry-each : (P : X → Type 0) (entry : X) (others : List X) → Each P (with_entry tick_of channel_of entry others) → P entry × Each P others
   entry-each P entry [] each = each
   entry-each P entry (other ∷ others) each =
       of-test P (is_before (tick_of entry) (channel_of entry) (tick_of other)) entry other others (with_entry tick_of channel_of entry others)
       (entry-each P entry others) each
 
+  -- by all insertions
   pub order-each : (P : X → Type 0) (xs : List X) → Each P (in_order tick_of channel_of xs) → Each P xs
   order-each P [] each = tt
   order-each P (x ∷ xs) each =
@@ -117,6 +130,7 @@ module _ {X : Type 0} (tick_of : X → ℕ) (channel_of : X → Channel) where
 
   -- ---- pairs, of a relation that is the same both ways
 
+  -- the pairs of a list with one entry more
   pairs-of-test : (R : X → X → Type 0) (b : Bool) (entry other : X) (others rest : List X) → ((x y : X) → R x y → R y x) →
       (Each (R other) rest → R other entry × Each (R other) others) → (Pairs R rest → Each (R entry) others × Pairs R others) →
       Pairs R (if b then entry ∷ other ∷ others else other ∷ rest) → Each (R entry) (other ∷ others) × Pairs R (other ∷ others)
@@ -124,6 +138,7 @@ module _ {X : Type 0} (tick_of : X → ℕ) (channel_of : X → Channel) where
   pairs-of-test R false entry other others rest both first later pairs =
       let now = first pairs.0 in let more = later pairs.1 in ((both other entry now.0, more.0), (now.1, more.1))
 
+  -- by insertion
   entry-pairs : (R : X → X → Type 0) (entry : X) (others : List X) → ((x y : X) → R x y → R y x) →
       Pairs R (with_entry tick_of channel_of entry others) → Each (R entry) others × Pairs R others
   entry-pairs R entry [] both pairs = pairs
@@ -131,6 +146,7 @@ module _ {X : Type 0} (tick_of : X → ℕ) (channel_of : X → Channel) where
       pairs-of-test R (is_before (tick_of entry) (channel_of entry) (tick_of other)) entry other others (with_entry tick_of channel_of entry others) both
       (entry-each (R other) entry others) (entry-pairs R entry others both) pairs
 
+  -- by all insertions
   pub order-pairs : (R : X → X → Type 0) (xs : List X) → ((x y : X) → R x y → R y x) → Pairs R (in_order tick_of channel_of xs) → Pairs R xs
   order-pairs R [] both pairs = tt
   order-pairs R (x ∷ xs) both pairs =
@@ -139,12 +155,14 @@ module _ {X : Type 0} (tick_of : X → ℕ) (channel_of : X → Channel) where
 
   -- ---- the order
 
+  -- an entry before the first of a list in strict order, or after it
   strictly-test : (b : Bool) (entry other : X) (others rest : List X) → (b ≡ true → Strictly entry other) → Pairs Strictly (other ∷ others) →
       (b ≡ false → Pairs Strictly (other ∷ rest)) → Pairs Strictly (if b then entry ∷ other ∷ others else other ∷ rest)
   strictly-test true entry other others rest first old later =
       let now = first refl in ((now, each-more (Strictly other) (Strictly entry) others (λ z. in-turn entry other z now) old.0), old)
   strictly-test false entry other others rest first old later = later refl
 
+  -- insertion keeps strict order
   strictly-entry : (entry : X) (others : List X) → Each (Apart entry) others → Pairs Strictly others →
       Pairs Strictly (with_entry tick_of channel_of entry others)
   strictly-entry entry [] apart old = (tt, tt)
@@ -168,15 +186,18 @@ module _ {X : Type 0} (tick_of : X → ℕ) (channel_of : X → Channel) where
   abbrev pub Before : X → X → Type 0
   Before x y = is_before (tick_of x) (channel_of x) (tick_of y) ≡ true
 
+  -- an entry that stands before all others comes first
   first-entry : (entry : X) (others : List X) → Each (Before entry) others → with_entry tick_of channel_of entry others ≡ entry ∷ others
   first-entry entry [] before = refl
   first-entry entry (other ∷ others) before = let test = before.0 in rw test refl
 
+  -- a test splits over what comes after
   append-test : (b : Bool) (entry other : X) (others rest more ys : List X) → more ≡ rest ++ ys →
       (if b then entry ∷ other ∷ (others ++ ys) else other ∷ more) ≡ (if b then entry ∷ other ∷ others else other ∷ rest) ++ ys
   append-test true entry other others rest more ys same = refl
   append-test false entry other others rest more ys same = ap (λ zs. other ∷ zs) same
 
+  -- an entry that stands before all of a second list is inserted into the first
   entry-append : (entry : X) (xs ys : List X) → Each (Before entry) ys →
       with_entry tick_of channel_of entry (xs ++ ys) ≡ with_entry tick_of channel_of entry xs ++ ys
   entry-append entry [] ys before = first-entry entry ys before
@@ -201,6 +222,7 @@ module _ {X : Type 0} (tick_of : X → ℕ) (channel_of : X → Channel) where
 
 -- ---- what is made of the entries
 
+-- a test of the entries is one of what is made of them
 map-test : {X Y : Type 0} (f : X → Y) (b d : Bool) (entry other : X) (others rest : List X) (more : List Y) → b ≡ d → map f rest ≡ more →
     map f (if b then entry ∷ other ∷ others else other ∷ rest) ≡ (if d then f entry ∷ f other ∷ map f others else f other ∷ more)
 map-test f true true entry other others rest more same later = refl
@@ -210,6 +232,7 @@ map-test f false true entry other others rest more same later = absurd (cc)
 
 module _ {X Y : Type 0} (f : X → Y) (tick_of : X → ℕ) (channel_of : X → Channel) (tick_to : Y → ℕ) (channel_to : Y → Channel)
     (ticks : (x : X) → tick_of x ≡ tick_to (f x)) (channels : (x : X) → channel_of x ≡ channel_to (f x)) where
+  -- what is made of a list with one entry more
   map-entry : (entry : X) (others : List X) →
       map f (with_entry tick_of channel_of entry others) ≡ with_entry tick_to channel_to (f entry) (map f others)
   map-entry entry [] = refl

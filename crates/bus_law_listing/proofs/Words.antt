@@ -30,12 +30,15 @@ use Rattle.bus_law_listing.proofs.Members.{Has, Each, Pairs, each-has, has-each,
 use Rattle.bus_law_listing.proofs.Ordered.{Strictly, Apart, same-lists, not-both, strictly-order, each-order, order-each, order-pairs}
 use Rattle.bus_law_listing.proofs.Found.{end_in, channel_in, strict-bursts}
 
+-- the first tick of a word, and its channel: by them words are in order
 abbrev tick_in : Heard → ℕ
 tick_in word = word.tick.0
 
+-- its channel
 abbrev heard_in : Heard → Channel
 heard_in word = word.channel
 
+-- equal options have equal values
 some-same : {X : Type 0} (x y : X) → Some x ≡ Some y → x ≡ y
 some-same x y e = cc
 
@@ -48,6 +51,7 @@ record IsWord (c : Channel) (t : ℕ) (slots : List (Option Word)) (h : Heard) :
   pub tick : h.tick.0 ≡ t + 40 * number
   pub word : slice_get slots number ≡ Some (Some h.word)
 
+-- each word has its number
 from-word : (c : Channel) (t : ℕ) (slots : List (Option Word)) (h : Heard) → Has (words_from c t slots) h → IsWord c t slots h
 from-word c t [] h has = absurd has
 from-word c t (None ∷ slots) h has =
@@ -71,6 +75,7 @@ in-word c t (Some first ∷ slots) h zero on at word =
     inl (rw (tick, same, sym on) refl)
 in-word c t (Some first ∷ slots) h (suc number) on at word = inr (in-word c (t + 40) slots h number on (omega (arith, at)) word)
 
+-- none begins before the first slot
 words-from : (c : Channel) (t u : ℕ) (slots : List (Option Word)) → u ≤ t → Each (λ h. u ≤ h.tick.0) (words_from c t slots)
 words-from c t u [] late = tt
 words-from c t u (None ∷ slots) late = words-from c (t + 40) u slots (omega (arith, late))
@@ -88,11 +93,13 @@ words-apart c t (Some word ∷ slots) = (
 
 -- ---- the slots of a burst that ended
 
+-- they are those of its samples
 slots-of : (k : ℕ) (past : List Pair) (w : WholeBurst) → IsEnded k past w →
     w.burst.slots ≡ map (slot_word (on_channel w.channel past) w.burst.first) (range_with_len 0 (w.burst.ticks / 40))
 unfolding burst_from
 slots-of k past w is = ap (λ (b : Burst). b.slots) is.slots
 
+-- slot i
 slot-at : (k : ℕ) (past : List Pair) (w : WholeBurst) (i : ℕ) → IsEnded k past w → i < w.burst.ticks / 40 →
     slice_get w.burst.slots i ≡ Some (slot_word (on_channel w.channel past) w.burst.first i)
 slot-at k past w i is within =
@@ -102,6 +109,7 @@ slot-at k past w i is within =
     ∙ slice_get-get_or (map f (range_with_len 0 (w.burst.ticks / 40))) i None (omega (arith, within, long))
     ∙ ap Some (get_or-map-range_with_len f 0 (w.burst.ticks / 40) i i None within (omega arith))
 
+-- a slot that it has is whole
 slot-within : (k : ℕ) (past : List Pair) (w : WholeBurst) (i : ℕ) (o : Option Word) → IsEnded k past w → slice_get w.burst.slots i ≡ Some o →
     i < w.burst.ticks / 40
 slot-within k past w i o is at =
@@ -113,10 +121,12 @@ slot-within k past w i o is at =
 
 -- ---- a word of a burst is valid
 
+-- the word of a slot is spelled there
 spelled-there : (past : List Sample) (p i q : ℕ) (word : Word) → q ≡ p + 40 * i → slot_word past p i ≡ Some word → Spells word (samples_from past q 40)
 unfolding slot_word
 spelled-there past p i q word place at = rw place (word_in-some (samples_from past (p + 40 * i) 40) word at)
 
+-- so it is valid
 word-valid : (k : ℕ) (past : List Pair) (w : WholeBurst) (h : Heard) (c : Channel) → w.channel ≡ c → IsEnded k past w → IsWord c w.burst.first w.burst.slots h →
     IsValid k past record { first = h.tick.0; channel = h.channel; word = h.word }
 word-valid k past w h c on is word =
@@ -158,10 +168,12 @@ whole-ended k past c p n rests burst =
       slots = rw (first, ticks) refl;
     }
 
+-- what is spelled in a slot is its word
 there-spelled : (past : List Sample) (p i q : ℕ) (word : Word) → q ≡ p + 40 * i → Spells word (samples_from past q 40) → slot_word past p i ≡ Some word
 unfolding slot_word
 there-spelled past p i q word place spelled = word_in-spells (samples_from past (p + 40 * i) 40) word (rw place at spelled)
 
+-- so a valid word is one of a burst that ended
 valid-word : (k : ℕ) (past : List Pair) (v : ValidWord) → runs k (on_channel v.channel past) ≡ false → IsValid k past v →
     (w : WholeBurst) × IsEnded k past w × IsWord w.channel w.burst.first w.burst.slots (heard_word v)
 valid-word k past v rests is =
@@ -190,17 +202,20 @@ valid-word k past v rests is =
 abbrev OtherEnd : WholeBurst → WholeBurst → Type 0
 OtherEnd v w = v.channel ≡ w.channel → end_of v.burst ≡ end_of w.burst → ⊥
 
+-- bursts in strict order have different ends on one channel
 other-end : (v w : WholeBurst) → EndsBefore v w → OtherEnd v w
 other-end v w (inl less) on at = omega (arith, less, at)
 other-end v w (inr both) on at = (let bad : A ≡ B = sym both.1 ∙ on ∙ both.2 in absurd (cc))
 
 module _ (k : ℕ) (past : List Pair) (bs : List ShownBurst) (found : bursts k past ≡ found_in_order (map burst_found bs)) where
+  -- the bursts of the table have ended
   all-ended : Each (λ b. IsEnded k past (burst_found b)) bs
   all-ended =
       map-each (IsEnded k past) burst_found bs (order-each end_in channel_in (IsEnded k past) (map burst_found bs)
       (subst (Each (IsEnded k past)) found
       (has-each (IsEnded k past) (bursts k past) (λ w has. bursts-found k past w (has-contains (bursts k past) w has)))))
 
+  -- with different ends on one channel
   all-other : Pairs (λ b d. OtherEnd (burst_found b) (burst_found d)) bs
   all-other =
       map-pairs OtherEnd burst_found bs (order-pairs end_in channel_in OtherEnd (map burst_found bs) (λ v w other on at. other (sym on) (sym at))
@@ -225,6 +240,7 @@ module _ (k : ℕ) (past : List Pair) (bs : List ShownBurst) (found : bursts k p
       let starts = alone.0 in let ticks = alone.1 in
       other same (omega (arith, starts, ticks))))
 
+  -- so no two words of the table begin in one tick of one channel
   words-apart-all : Pairs (Apart tick_in heard_in) (flat_map words_of bs)
   words-apart-all =
       pairs-flat (Apart tick_in heard_in) words_of bs
