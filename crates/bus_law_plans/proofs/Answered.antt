@@ -91,6 +91,22 @@ module _ (terminal : TerminalData) (memory : Memory) (c : Channel) (command : �
   pub obeyed-owes : (slots : List (Option Word)) (rest : ℕ) → OwesSo (obey terminal memory c command slots rest may)
   obeyed-owes slots rest = by-tail (tail_of terminal.address command slots rest)
 
+  always-owed : (X : Type 0) → X → (duty : Duty) → Owed (λ words acceptance. X) duty
+  always-owed X x free = tt
+  always-owed X x (owes words acceptance) = x
+  always-owed X x (promises other transmitter) = tt
+
+  by-carried : (tail : Tail) → Owed (λ words acceptance. (ws : List ℕ) × (tail ≡ carries ws)) (obey_tail terminal memory c command may tail).duty
+  by-carried unexpected = tt
+  by-carried (relay_from transmitter) = tt
+  by-carried (carries words) =
+      always-owed ((ws : List ℕ) × (carries words ≡ carries ws)) (words, refl) (obey_data terminal memory c command words may memory.registers).duty
+
+  -- only a command with the words that it wants is answered
+  pub obeyed-carries : (slots : List (Option Word)) (rest : ℕ) →
+      Owed (λ words acceptance. (ws : List ℕ) × (tail_of terminal.address command slots rest ≡ carries ws)) (obey terminal memory c command slots rest may).duty
+  obeyed-carries slots rest = by-carried (tail_of terminal.address command slots rest)
+
 -- ---- an answer has few words
 
 filled-few : (count : ℕ) (words : List ℕ) → length (filled count words) ≤ count
@@ -123,6 +139,7 @@ pub record IsAnswerOf (k : ℕ) (loads : List TimedLoad) (burst : ShownBurst) (s
   pub channel : a.channel ≡ burst.channel
   pub start : a.start ≡ due_after s.plan.terminal (burst_end burst)
   pub is : IsAnswer s.plan.terminal (memory_at k loads burst s) order.command (has_items s.left) a.words a.acceptance
+  pub carried : (ws : List ℕ) × (tail_of (address_of_station s) order.command order.tail burst.rest ≡ carries ws)
 
 module _ (k : ℕ) (loads : List TimedLoad) (burst : ShownBurst) where
   abbrev Replies : Present → After → Type 0
@@ -131,10 +148,10 @@ module _ (k : ℕ) (loads : List TimedLoad) (burst : ShownBurst) where
   by-duty : (s : Present) (order : Order) (after : After) (duty : Duty) → s.serves ≡ true → last_order (address_of_station s) burst.slots ≡ Some order →
       after.station.plan ≡ s.plan →
       Owed (IsAnswer s.plan.terminal (memory_at k loads burst s) order.command (has_items s.left)) duty →
-      (a : Answer) → answer_for burst after duty ≡ Some a → IsAnswerOf k loads burst s a
-  by-duty s order after free serves found same owed a is = absurd (none-some a is)
-  by-duty s order after (promises command transmitter) serves found same owed a is = absurd (none-some a is)
-  by-duty s order after (owes words acceptance) serves found same owed a is =
+      Owed (λ words acceptance. (ws : List ℕ) × (tail_of (address_of_station s) order.command order.tail burst.rest ≡ carries ws)) duty → (a : Answer) → answer_for burst after duty ≡ Some a → IsAnswerOf k loads burst s a
+  by-duty s order after free serves found same owed tail a is = absurd (none-some a is)
+  by-duty s order after (promises command transmitter) serves found same owed tail a is = absurd (none-some a is)
+  by-duty s order after (owes words acceptance) serves found same owed tail a is =
       let this : record { address = address_of_station after.station; channel = burst.channel; start = due_after after.station.plan.terminal (burst_end burst); words = words; acceptance = acceptance } ≡ a = same_Some _ _ is in
       record {
         serves = serves;
@@ -144,6 +161,7 @@ module _ (k : ℕ) (loads : List TimedLoad) (burst : ShownBurst) where
         channel = sym (ap (λ (x : Answer). x.channel) this);
         start = sym (ap (λ (x : Answer). x.start) this) ∙ ap (λ p. due_after p.terminal (burst_end burst)) same;
         is = subst (λ (x : Answer). IsAnswer s.plan.terminal (memory_at k loads burst s) order.command (has_items s.left) x.words x.acceptance) this owed;
+        carried = tail;
       }
 
   by-order : (s : Present) (order : Option Order) → s.serves ≡ true → last_order (address_of_station s) burst.slots ≡ order →
@@ -151,7 +169,8 @@ module _ (k : ℕ) (loads : List TimedLoad) (burst : ShownBurst) where
   by-order s None serves found a is = absurd (none-some a is)
   by-order s (Some order) serves found a is =
       by-duty s order (after_command_of k loads burst s (Some order)) _ serves found refl
-      (obeyed-owes s.plan.terminal (memory_at k loads burst s) burst.channel order.command (has_items s.left) order.tail burst.rest) a is
+      (obeyed-owes s.plan.terminal (memory_at k loads burst s) burst.channel order.command (has_items s.left) order.tail burst.rest)
+      (obeyed-carries s.plan.terminal (memory_at k loads burst s) burst.channel order.command (has_items s.left) order.tail burst.rest) a is
 
   by-serving : (s : Present) (serves : Bool) → s.serves ≡ serves →
       Replies s (if serves then after_command_of k loads burst s (last_order (address_of_station s) burst.slots) else unmoved s)

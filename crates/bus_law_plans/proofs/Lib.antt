@@ -21,3 +21,10 @@ pub mod Growing
 pub mod Shown
 pub mod Bounded
 pub mod EachRun
+pub mod Lengths
+pub mod Orders
+pub mod Blocks
+pub mod Singles
+pub mod Relays
+pub mod Delivered
+pub mod AllDelivered

@@ -8,9 +8,10 @@ use Rattle.bus_formats.specs.declared.fault.Fault.{Fault}
 use Rattle.bus_model.specs.Memory.{TimedLoad}
 use Rattle.bus_model.specs.Orders.{Duty, free, owes, promises, Order}
 use Rattle.bus_model.specs.Strikes.{ShownBurst, burst_end, ShownAnswer, shown_answer, hits_on}
+use Rattle.bus_model.specs.Counted.{is_counted}
 use Rattle.bus_model.specs.Endings.{ending_of}
-use Rattle.bus_model.specs.Message.{Present, After, command_burst, after_command, after_command_of, after_answer, after_answer_of, after_silence, after_silence_of, answer_to, abandoned_bursts, answer_bursts, message, message_obeyed}
-use Rattle.bus_law_plans.proofs.Lists.{either}
+use Rattle.bus_model.specs.Message.{Present, After, command_burst, after_command, after_command_of, after_answer, after_answer_of, after_silence, after_silence_of, answer_to, Delivered, blocks_taken, abandoned_bursts, answer_bursts, message, message_obeyed}
+use Rattle.bus_law_plans.proofs.Lists.{either, each-append}
 
 zip-settled : (R : Present → Present → Type 0) (f : After → After) (g : Present → After) (stations : List Present) →
     Each (λ s. R s (f (g s)).station) stations → AllZip R stations (map (λ after. after.station) (map f (map g stations)))
@@ -78,6 +79,28 @@ module _ (k : ℕ) (loads : List TimedLoad) (faults : List Fault) (n : ℕ) (ite
   unfolding message
   bursts-are = bursts-by replied
 
+  deliveries-by : (P : Delivered → Type 0) (shown : Option ShownAnswer) → Each P (blocks_taken k loads told ordered) →
+      ((answer : ShownAnswer) → shown ≡ Some answer → Each P (blocks_taken k loads answer.burst (map (after_answer k loads answer.burst) ordered))) →
+      Each P (message_obeyed k loads faults n item on told ordered shown).deliveries
+  deliveries-by P None first later = first
+  deliveries-by P (Some answer) first later =
+      each-append P (blocks_taken k loads told ordered) (blocks_taken k loads answer.burst (map (after_answer k loads answer.burst) ordered)) first (later answer refl)
+
+  -- what holds of the blocks that are taken of the command and of the first answer holds of all
+  pub deliveries-each : (P : Delivered → Type 0) → Each P (blocks_taken k loads told ordered) →
+      ((answer : ShownAnswer) → replied ≡ Some answer → Each P (blocks_taken k loads answer.burst (map (after_answer k loads answer.burst) ordered))) →
+      Each P (message k loads faults n item on channel start stations).deliveries
+  unfolding message
+  deliveries-each P first later = deliveries-by P replied first later
+
+  counted-by : (shown : Option ShownAnswer) → (message_obeyed k loads faults n item on told ordered shown).counted ≡ is_counted item.kind shown
+  counted-by None = refl
+  counted-by (Some answer) = refl
+
+  pub counted-is : (message k loads faults n item on channel start stations).counted ≡ is_counted item.kind replied
+  unfolding message
+  counted-is = counted-by replied
+
 -- ---- a message changes of a station what its terminal keeps, and nothing else
 
 pub record IsKept (a b : Present) : Type 0 where
@@ -105,7 +128,7 @@ module _ (k : ℕ) (loads : List TimedLoad) (burst : ShownBurst) where
   pub command-kept : (s : Present) → IsKept s (after_command k loads burst s).station
   command-kept s = either (λ (a : After). IsKept s a.station) s.serves _ _ (order-kept s _) (same s)
 
-  answer-kept : (s : Present) (duty : Duty) → IsKept s (after_answer_of k loads burst s duty).station
+  pub answer-kept : (s : Present) (duty : Duty) → IsKept s (after_answer_of k loads burst s duty).station
   answer-kept s free = same s
   answer-kept s (owes words acceptance) = same s
   answer-kept s (promises command transmitter) = record { plan_is = refl; left_is = refl; live_is = refl; serves_is = refl }

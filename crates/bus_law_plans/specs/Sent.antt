@@ -1,7 +1,8 @@
 -- Which block a message delivers, and when: whole, with the end of the burst that carried it (data reception, MIL-STD-1553B 4.4.3.5, 4.4.3.6).
-use Rattle.std.specs.Prelude.{◌≡◌, ◌≢◌, ℕ, suc, ◌+◌, ◌==◌, Bool, true, List, map, length, Option, Some, option_map, IsSomeAnd}
+use Rattle.std.specs.Prelude.{◌≡◌, ◌≢◌, ℕ, suc, ◌+◌, ◌<◌, ◌==◌, Bool, true, List, map, length, Option, Some, option_map, IsSomeAnd}
 use Rattle.std.specs.List.{AllByRecursion as Each}
 use Rattle.bus_base.specs.declared.samples.Part.TheVariants.{Command, First}
+use Rattle.bus_formats.specs.Plans.{PlanData}
 use Rattle.bus_formats.specs.declared.fault.Fault.{Fault}
 use Rattle.bus_formats.specs.declared.plan.Kind.{Kind}
 use Rattle.bus_formats.specs.declared.plan.Kind.TheVariants.{Receive, Relay}
@@ -9,7 +10,7 @@ use Rattle.bus_model.specs.Attempts.{Begun}
 use Rattle.bus_model.specs.Blocks.{sent_block}
 use Rattle.bus_model.specs.Memory.{TimedLoad}
 use Rattle.bus_model.specs.Message.{Delivered, Message, message, command_burst, after_command, answer_to}
-use Rattle.bus_model.specs.Run.{Run, Next}
+use Rattle.bus_model.specs.Run.{Run, Next, next_item, attempts_after, first_run}
 use Rattle.bus_model.specs.Starts.{state_of, start_of}
 use Rattle.bus_model.specs.Strikes.{ShownBurst, burst_end, ShownAnswer, hits_on, shown_answer}
 
@@ -58,3 +59,12 @@ module _ (k : ℕ) (loads : List TimedLoad) (faults : List Fault) (run : Run) wh
 
   abbrev pub DeliversWhole : Begun → Type 0
   DeliversWhole begun = (message_of begun).counted ≡ true → Each (IsSentBlock begun) (message_of begun).deliveries
+
+-- the block was delivered by one of the first so many attempts of the plan's run
+pub record IsDeliveredIn (k : ℕ) (loads : List TimedLoad) (plan : PlanData) (most : ℕ) (d : Delivered) : Type 0 where
+  pub before : ℕ
+  pub within : before < most
+  pub next : Next
+  pub next_is : next_item (attempts_after k loads plan.faults before (first_run plan)) ≡ Some next
+  pub sent : IsSentBlock k loads plan.faults (attempts_after k loads plan.faults before (first_run plan))
+      (begun_of (attempts_after k loads plan.faults before (first_run plan)) next) d
