@@ -1,0 +1,13 @@
+pub mod Choices
+pub mod Before
+pub mod Heard
+pub mod Received
+pub mod LastTaken
+pub mod Handled
+pub mod TakenWords
+pub mod Marks
+pub mod Addressed
+pub mod GivenUp
+pub mod RunsOut
+pub mod Counting
+pub mod NextBurst

@@ -1,0 +1,4 @@
+pub mod Ticks
+pub mod Blocks
+pub mod Heeding
+pub mod Replies

@@ -1,0 +1,20 @@
+//! Terminals and controllers by tick numbers. The definitions go on tick by tick, and keep only what the next tick needs; here it is said once more of
+//! a whole hearing or history: which block a subaddress has, when an answer that is owed is given up, when a promise runs out, and which answer
+//! counts. Laws alone, each the contract of an empty function.
+#![tactic(auto)]
+
+pub mod blocks;
+pub mod heeding;
+pub mod orders;
+pub mod replies;
+
+pub use blocks::{
+    a_block_taken_is_all_of_a_burst, a_receive_block_is_the_last_block_taken,
+    a_receive_block_stays_or_is_the_block_taken,
+};
+pub use heeding::{a_channel_is_heeded_where_no_answer_runs, addressed_slots_are_marked};
+pub use orders::{
+    a_promise_ends_with_the_31st_quiet_tick, an_answer_is_given_up_by_a_newer_command_or_a_sample,
+    an_order_is_handled_with_the_end_of_its_burst,
+};
+pub use replies::{an_answer_counts_within_24_dead_ticks, the_answer_is_the_next_burst};
