@@ -130,7 +130,7 @@ module _ (k : ℕ) (part : Part) (hits : List Hit) (words : List Word) (three : 
       (runs-leg k (part_sample hits words n) (first_samples (part_sample hits words) n) past leg))
 
   -- its last tick isn't quiet
-  heard-last : (n : ℕ) → suc n ≡ part_ticks hits words → is_quiet (part_sample hits words n) ≡ false
+  pub heard-last : (n : ℕ) → suc n ≡ part_ticks hits words → is_quiet (part_sample hits words n) ≡ false
   heard-last n e =
       let at : 40 * (n / 40) + 39 ≡ n = omega (arith, e) in
       part-quiets part hits words n fits (omega (arith, e))

@@ -1,6 +1,6 @@
-mod Lists
-mod Agendas
-mod FirstRun
+pub mod Lists
+pub mod Agendas
+pub mod FirstRun
 pub mod Messages
 pub mod Struck
 pub mod Answered
