@@ -250,7 +250,7 @@ module _ (head : Head) (path : List ℕ) (ms : Members) where
       (missing-from rs (All-tail (IsThere head ms) r rs h))
 
   -- the search of one table
-  rows-to : (rule : Rule) (rows : RowsData) → in_table head rule rows path ms ≡ None → KeepsRows rule head rows ms
+  pub rows-to : (rule : Rule) (rows : RowsData) → in_table head rule rows path ms ≡ None → KeepsRows rule head rows ms
   rows-to Missing rows h = (missing-to rows.common (or_none_left _ _ h), missing-to rows.own (or_none_right (first_missing head rows.common path ms) _ h))
   rows-to UnknownKey rows h = members-to head UnknownKey rows (λ k d. IsSome (shape_at head rows k)) (λ k d. unknown-to (shape_at head rows k) d) path ms h
   rows-to WrongKind rows h =

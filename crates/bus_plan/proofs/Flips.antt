@@ -18,17 +18,17 @@ use Rattle.bus_plan.specs.Ranges.{flip_range, fade_range}
 use Rattle.bus_plan.specs.declared.ranges.Range.{Range}
 
 -- what a rising list says of its first position
-low_first : (low high p : ℕ) (ps : List ℕ) → rises low high (p ∷ ps) ≡ true → low ≤ p
+pub low_first : (low high p : ℕ) (ps : List ℕ) → rises low high (p ∷ ps) ≡ true → low ≤ p
 low_first low high p ps h = grind (arith, nat_tests)
 
-first_high : (low high p : ℕ) (ps : List ℕ) → rises low high (p ∷ ps) ≡ true → p ≤ high
+pub first_high : (low high p : ℕ) (ps : List ℕ) → rises low high (p ∷ ps) ≡ true → p ≤ high
 first_high low high p ps h = grind (arith, nat_tests)
 
-rest_rises : (low high p : ℕ) (ps : List ℕ) → rises low high (p ∷ ps) ≡ true → rises (suc p) high ps ≡ true
+pub rest_rises : (low high p : ℕ) (ps : List ℕ) → rises low high (p ∷ ps) ≡ true → rises (suc p) high ps ≡ true
 rest_rises low high p ps h = grind (arith, nat_tests)
 
 -- a rising list lies within its range, and each position is above the one before
-rises_within : (low high : ℕ) (ps : List ℕ) → rises low high ps ≡ true → IsWithin low high ps
+pub rises_within : (low high : ℕ) (ps : List ℕ) → rises low high ps ≡ true → IsWithin low high ps
 rises_within low high [] h i lt = absurd (omega arith)
 rises_within low high (p ∷ ps) h zero lt = (low_first low high p ps h, first_high low high p ps h)
 rises_within low high (p ∷ ps) h (suc i) lt =
@@ -36,7 +36,7 @@ rises_within low high (p ∷ ps) h (suc i) lt =
     let l = low_first low high p ps h in
     (omega (arith, w.0, l), w.1)
 
-rises_above : (low high : ℕ) (ps : List ℕ) → rises low high ps ≡ true → Rises ps
+pub rises_above : (low high : ℕ) (ps : List ℕ) → rises low high ps ≡ true → Rises ps
 rises_above low high [] h i lt = absurd (omega arith)
 rises_above low high (p ∷ []) h i lt = absurd (omega arith)
 rises_above low high (p ∷ q ∷ ps) h zero lt = low_first (suc p) high q ps (rest_rises low high p (q ∷ ps) h)

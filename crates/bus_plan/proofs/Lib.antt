@@ -12,3 +12,13 @@ pub mod ExactFaults
 pub mod FaultLaws
 pub mod AcceptedLaws
 pub mod ExactPlans
+pub mod DescribedValues
+pub mod DescribedItems
+pub mod DescribedStations
+pub mod DescribedFaults
+pub mod DescribedFits
+pub mod DescribedRows
+pub mod DescribedStationRows
+pub mod DescribedPlans
+pub mod DescribedPlain
+pub mod DescribedTexts

@@ -15,3 +15,4 @@ pub mod Limits
 pub mod Refusals
 pub mod PlanOf
 pub mod PlanRules
+pub mod Described

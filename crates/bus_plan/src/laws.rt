@@ -1,14 +1,17 @@
 //! Laws of reading plans, each a function with nothing to do.
-ghost use Rattle.std.specs.Prelude.{◌≡◌, ◌≢◌, ◌↔◌, ℕ, List, None, Ok, All, AllPairs, Contains};
+ghost use Rattle.std.specs.Prelude.{◌≡◌, ◌≢◌, ◌↔◌, ℕ, Bool, true, List, None, Ok, All, AllPairs, Contains};
+ghost use Rattle.std.specs.Str.{is_utf8};
 ghost use Rattle.toml.specs.Data.{Members};
-ghost use Rattle.bus_formats.specs.Accepted.{HasStationRanges, HasFaultRanges, IsController, addresses, IsFrameSendable, StrikesTheSame, IsWithinLimits};
+ghost use Rattle.toml.specs.Text.{IsDocumentText};
+ghost use Rattle.bus_formats.specs.Accepted.{IsAccepted, HasStationRanges, HasFaultRanges, IsController, addresses, IsFrameSendable, StrikesTheSame, IsWithinLimits};
 ghost use Rattle.bus_formats.specs.Plans.{PlanData};
 ghost use Rattle.bus_plan.specs.DecodeFaults.{plan_of};
+ghost use Rattle.bus_plan.specs.Described.{document_with};
 ghost use Rattle.bus_plan.specs.FaultRules.{undetectable, same_fault};
 ghost use Rattle.bus_plan.specs.ItemRules.{same_address, start_missing, in_stations};
 ghost use Rattle.bus_plan.specs.Limits.{too_many};
 ghost use Rattle.bus_plan.specs.PlanOf.{head_of, in_document, plan_of_bytes};
-ghost use Rattle.bus_plan.specs.PlanRules.{NamesStations, NamesOthers, HasForms, IsSuperseding, HasDetectableFlips, HasFewFrames, AreReadAs};
+ghost use Rattle.bus_plan.specs.PlanRules.{NamesStations, NamesOthers, HasForms, IsSuperseding, HasDetectableFlips, HasFewFrames, IsReadAs, AreReadAs};
 ghost use Rattle.bus_plan.specs.Tables.{KeepsRule};
 ghost use Rattle.bus_plan.specs.declared.item_rules.ItemRule.TheVariants.{NoSuchStation, SelfAddressed, BadForm, BadAbandon};
 ghost use Rattle.bus_plan.specs.declared.rows.Head.{Head};
@@ -58,4 +61,11 @@ pub fn rules_on_faults_and_amounts_are_exact()
 /// describes is accepted, with no more frames than its version allows.
 pub fn what_is_accepted_is_read()
     ensures { (bytes : List ℕ) (p : PlanData) → (plan_of_bytes bytes ≡ Ok p) ↔ AreReadAs bytes p }
+{}
+
+/// Each accepted plan is read: from the document that describes it, and from each text that writes this document.
+pub fn each_accepted_plan_is_read()
+    ensures document { (p : PlanData) → IsAccepted p → IsReadAs (document_with p) p }
+    ensures text { (p : PlanData) (pretty : Bool) (text : List ℕ) → IsAccepted p → is_utf8 text ≡ true → IsDocumentText pretty (document_with p) text →
+        plan_of_bytes text ≡ Ok p }
 {}
