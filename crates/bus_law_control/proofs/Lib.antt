@@ -10,3 +10,4 @@ pub mod Passing
 pub mod OtherChannel
 pub mod Keeping
 pub mod Starting
+pub mod SilentHolder

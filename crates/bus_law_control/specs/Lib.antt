@@ -3,3 +3,4 @@ pub mod Waiting
 pub mod Offers
 pub mod Abandoning
 pub mod Keeping
+pub mod Silent

@@ -6,6 +6,7 @@ pub mod abandoning;
 pub mod answers;
 pub mod beside;
 pub mod doubts;
+pub mod holders;
 pub mod offers;
 pub mod turns;
 pub mod waiting;
@@ -23,6 +24,10 @@ pub use doubts::{
     a_doubting_offerer_keeps_control_after_eighty_quiet_ticks,
     a_doubting_offerer_yields_to_the_first_sample, a_passed_offer_gives_control,
     a_yielding_station_hears_the_tick, an_offerer_doubts,
+};
+pub use holders::{
+    a_holder_doubts_in_silence, a_holder_rests_before_its_next_message,
+    a_holder_waits_for_its_answer,
 };
 pub use offers::{a_status_that_accepts_is_accepted, an_accepting_station_takes_control};
 pub use turns::{
