@@ -11,3 +11,4 @@ pub mod OtherChannel
 pub mod Keeping
 pub mod Starting
 pub mod SilentHolder
+pub mod Heedless

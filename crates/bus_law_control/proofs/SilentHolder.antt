@@ -73,6 +73,7 @@ module _ (k : ℕ) (station : StationData) (starts : Bool) (loads : List TimedLo
 
   -- ---- no message runs
 
+  -- whatever is shown before the next one starts
   pub rests-silent : c.runs ≡ None → (ticks : List Pair) → StartedNone c past ticks → StartsLater c (ticks ++ past) →
       StaysSilent k station starts loads outside past ticks
   rests-silent idle ticks none later =

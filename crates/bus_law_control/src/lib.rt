@@ -17,8 +17,8 @@ pub use abandoning::{
 };
 pub use answers::a_mute_answer_is_over;
 pub use beside::{
-    a_burst_without_a_command_is_not_heeded, an_answer_is_sent_on_beside_a_burst,
-    an_ignored_channel_is_not_heeded,
+    a_burst_without_a_command_is_not_heeded, a_terminal_that_heeds_nothing_stays_as_it_is,
+    an_answer_is_sent_on_beside_a_burst, an_ignored_channel_is_not_heeded,
 };
 pub use doubts::{
     a_doubting_offerer_keeps_control_after_eighty_quiet_ticks,
