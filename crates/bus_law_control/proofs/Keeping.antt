@@ -6,7 +6,7 @@ use Rattle.bus_base.specs.declared.samples.Channel.{Channel}
 use Rattle.bus_base.specs.declared.samples.Channel.TheVariants.{A, B}
 use Rattle.bus_base.specs.declared.samples.Pair.{Pair}
 use Rattle.bus_base.specs.declared.samples.Sample.TheVariants.{Quiet}
-use Rattle.bus_line.specs.Past.{quiet_ticks}
+use Rattle.bus_line.specs.Past.{quiet_ticks, runs}
 use Rattle.bus_formats.specs.Plans.{StationData, TerminalData}
 use Rattle.bus_model.specs.Memory.{Memory, TimedLoad}
 use Rattle.bus_model.specs.Hearing.{Moment, heard_on}
@@ -16,6 +16,7 @@ use Rattle.bus_model.specs.Course.{Take, Course}
 use Rattle.bus_model.specs.Control.{OutsideTake, StationSoFar, unheard_ticks, moment_of, course_with, so_far, course_after}
 use Rattle.bus_law_stations.specs.Silence.{quiet_moments, NothingDue, AreTaken}
 use Rattle.bus_law_stations.specs.Turns.{moments_of, with_moments, TakesNothing, KeepsControl, Serves}
+use Rattle.bus_law_stations.proofs.Resting.{rests-quiet}
 use Rattle.bus_law_stations.proofs.StillStation.{always-taken}
 use Rattle.bus_law_stations.proofs.StillTerminal.{still-stands}
 use Rattle.bus_law_stations.proofs.Turning.{serving-hears}
@@ -55,6 +56,11 @@ pub unheard-on : (c : Channel) (past : List Pair) → heard_on c (unheard_ticks 
 unheard-on c [] = refl
 unheard-on A (shown ∷ past) = ap (λ xs. Quiet ∷ xs) (unheard-on A past)
 unheard-on B (shown ∷ past) = ap (λ xs. Quiet ∷ xs) (unheard-on B past)
+
+-- so no burst ran there
+pub unheard-runs : (k : ℕ) (c : Channel) (past : List Pair) → runs k (heard_on c (unheard_ticks past)) ≡ false
+unheard-runs k c past =
+    ap (runs k) (unheard-on c past ∙ sym (append-nil (quiet_ticks (length past)))) ∙ rests-quiet k (length past) [] refl
 
 -- no tick in which its station might accept
 nones : List Pair → List Bool

@@ -17,7 +17,7 @@ and-both : (a b : Bool) → a ≡ true → (a && b) ≡ b
 and-both a b on = rw on refl
 
 -- the newest of its attempts ended in this tick
-closed-now : (c : Course) (begun : Begun) (e : Ended) (tick : ℕ) → yielded_in tick (close c begun e tick).ended ≡ is_yielded e.outcome
+pub closed-now : (c : Course) (begun : Begun) (e : Ended) (tick : ℕ) → yielded_in tick (close c begun e tick).ended ≡ is_yielded e.outcome
 closed-now c begun e tick = and-both (tick == tick) (is_yielded e.outcome) (eq-eqb tick tick refl)
 
 -- it serves

@@ -1,5 +1,5 @@
 -- A station in control over ticks in which nothing changes of it.
-use Rattle.std.proofs.Common.{◌≡◌, ℕ, zero, suc, ◌+◌, ◌<◌, ◌≤◌, Bool, true, List, [], ◌∷◌, ◌++◌, length, Some, None, refl, sym, ap, ◌∙◌, subst, arith}
+use Rattle.std.proofs.Common.{◌≡◌, ℕ, zero, suc, ◌+◌, ◌<◌, ◌≤◌, Bool, true, false, List, [], ◌∷◌, ◌++◌, length, Some, None, refl, sym, ap, ◌∙◌, subst, arith}
 use Rattle.bus_base.specs.Samples.{sample_on, quiet_pairs}
 use Rattle.bus_base.specs.declared.samples.Pair.{Pair}
 use Rattle.bus_base.specs.declared.samples.Sample.{Sample}
@@ -12,9 +12,10 @@ use Rattle.bus_formats.specs.Times.{no_response, doubting}
 use Rattle.bus_model.specs.Memory.{TimedLoad}
 use Rattle.bus_model.specs.Attempts.{Begun}
 use Rattle.bus_model.specs.Course.{Take, Course, course, drive_course}
-use Rattle.bus_model.specs.Control.{OutsideTake, so_far, course_after}
+use Rattle.bus_model.specs.Control.{OutsideTake, so_far, course_after, unheard_ticks, yielded_in}
 use Rattle.bus_law_stations.specs.Silence.{AwaitsFirst, AwaitsSecond}
 use Rattle.bus_law_stations.specs.Messages.{ShowsBurst}
+use Rattle.bus_law_stations.specs.Turns.{with_moments, KeepsControl}
 use Rattle.bus_law_stations.proofs.StillController.{Awaits}
 use Rattle.bus_law_stations.proofs.StillStation.{always-taken}
 use Rattle.bus_law_stations.proofs.Turning.{holding-hears, holding-course, holding-sends}
@@ -132,3 +133,27 @@ module _ (k : ℕ) (station : StationData) (starts : Bool) (loads : List TimedLo
         (doubt-waits k station starts takes past begun x taken runs doubt still p.0 p.2))
         (λ ticks p. subst (λ ts. drive_course k (ts ++ past) (course k station starts takes (ts ++ past)) ≡ Silent) (sym p.1)
         (doubt-silent k station starts takes past begun x taken runs doubt still p.0 p.2)) (quiet_pairs n) (n, refl, early)
+
+-- ---- the tick after
+
+module _ (k : ℕ) (station : StationData) (starts : Bool) (loads : List TimedLoad) (outside : List OutsideTake) (past ticks : List Pair)
+    (holds : (course_after k station starts loads outside past).holds ≡ true) (stays : StaysSilent k station starts loads outside past ticks)
+    (x : Pair) (d : Course)
+    (is : course k station starts (so_far k station starts loads outside past).takes (x ∷ (ticks ++ past)) ≡ d)
+    (kept : yielded_in (length (ticks ++ past)) d.ended ≡ false) where
+  -- it is kept in it, if its message isn't yielded
+  pub kept-then : KeepsControl k station starts loads outside past (x ∷ ticks)
+  kept-then = (
+    ap (λ (c : Course). c.holds) (sym (holding-course k station starts loads outside past ticks stays.keeps) ∙ stays.same) ∙ holds,
+    ap (λ (c : Course). yielded_in (length (ticks ++ past)) c.ended) is ∙ kept,
+    stays.keeps,
+  )
+
+  -- its terminal hears nothing
+  pub hears-then : so_far k station starts loads outside ((x ∷ ticks) ++ past)
+      ≡ with_moments (so_far k station starts loads outside past) (unheard_ticks (x ∷ ticks))
+  hears-then = holding-hears k station starts loads outside past (x ∷ ticks) kept-then
+
+  -- and its controller decides
+  pub course-then : course_after k station starts loads outside ((x ∷ ticks) ++ past) ≡ d
+  course-then = holding-course k station starts loads outside past (x ∷ ticks) kept-then ∙ is

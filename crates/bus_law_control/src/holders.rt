@@ -1,7 +1,7 @@
 //! When nothing changes of a station in control, and it sends nothing: laws of the whole station, by those of its controller. Laws alone, each the
 //! contract of an empty function.
 
-ghost use Rattle.std.specs.Prelude.{◌≡◌, ◌⊎◌, ℕ, ◌+◌, ◌<◌, ◌≤◌, Bool, true, List, ◌++◌, length, Some, None};
+ghost use Rattle.std.specs.Prelude.{◌≡◌, ◌⊎◌, ℕ, ◌+◌, ◌<◌, ◌≤◌, Bool, true, false, List, ◌∷◌, ◌++◌, length, Some, None};
 ghost use Rattle.bus_base.specs.Samples.{quiet_pairs};
 ghost use Rattle.bus_base.specs.declared.samples.Pair.{Pair};
 ghost use Rattle.bus_line.specs.Channels.{on_channel, quiet_both};
@@ -10,10 +10,11 @@ ghost use Rattle.bus_formats.specs.Plans.{StationData};
 ghost use Rattle.bus_formats.specs.Times.{no_response, doubting};
 ghost use Rattle.bus_model.specs.Memory.{TimedLoad};
 ghost use Rattle.bus_model.specs.Attempts.{Begun};
-ghost use Rattle.bus_model.specs.Course.{Course};
-ghost use Rattle.bus_model.specs.Control.{OutsideTake, course_after};
+ghost use Rattle.bus_model.specs.Course.{Course, course};
+ghost use Rattle.bus_model.specs.Control.{OutsideTake, yielded_in, unheard_ticks, so_far, course_after};
 ghost use Rattle.bus_law_stations.specs.Silence.{AwaitsFirst, AwaitsSecond};
 ghost use Rattle.bus_law_stations.specs.Messages.{ShowsBurst};
+ghost use Rattle.bus_law_stations.specs.Turns.{with_moments, KeepsControl};
 ghost use Rattle.bus_law_control.specs.Abandoning.{AreKept};
 ghost use Rattle.bus_law_control.specs.Offers.{IsDoubting};
 ghost use Rattle.bus_law_control.specs.Silent.{StaysSilent};
@@ -51,4 +52,16 @@ pub fn a_holder_doubts_in_silence()
         (x n : ℕ) → let c : Course = course_after k station starts loads outside past in c.holds ≡ true → c.runs ≡ Some begun →
         IsDoubting k begun (on_channel begun.state.channel past) x → length past ≤ x + quiet_both past → length past + n < x + doubting →
         StaysSilent k station starts loads outside past (quiet_pairs n) }
+{}
+
+/// In the tick after such ticks its controller decides what becomes of it, and its terminal hears nothing of that tick either, unless its message ends
+/// yielded in it. At every lag.
+pub fn a_holder_closes_its_message_unheard()
+    ensures { (k : ℕ) (station : StationData) (starts : Bool) (loads : List TimedLoad) (outside : List OutsideTake) (past ticks : List Pair) (x : Pair)
+        (d : Course) → let before = so_far k station starts loads outside past in (course_after k station starts loads outside past).holds ≡ true →
+        StaysSilent k station starts loads outside past ticks → course k station starts before.takes (x ∷ (ticks ++ past)) ≡ d →
+        yielded_in (length (ticks ++ past)) d.ended ≡ false →
+        KeepsControl k station starts loads outside past (x ∷ ticks)
+        × (so_far k station starts loads outside ((x ∷ ticks) ++ past) ≡ with_moments before (unheard_ticks (x ∷ ticks)))
+        × (course_after k station starts loads outside ((x ∷ ticks) ++ past) ≡ d) }
 {}

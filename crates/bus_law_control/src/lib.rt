@@ -26,8 +26,8 @@ pub use doubts::{
     a_yielding_station_hears_the_tick, an_offerer_doubts,
 };
 pub use holders::{
-    a_holder_doubts_in_silence, a_holder_rests_before_its_next_message,
-    a_holder_waits_for_its_answer,
+    a_holder_closes_its_message_unheard, a_holder_doubts_in_silence,
+    a_holder_rests_before_its_next_message, a_holder_waits_for_its_answer,
 };
 pub use offers::{a_status_that_accepts_is_accepted, an_accepting_station_takes_control};
 pub use turns::{
