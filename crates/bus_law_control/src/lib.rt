@@ -1,5 +1,7 @@
 //! What stations do as control passes between them, and of messages that were abandoned: laws over one station and any past. Laws alone, each
-//! the contract of an empty function.
+//! the contract of an empty function. Proved: a station that holds control has heard nothing, and stays silent while it rests, waits or doubts; a
+//! status that accepts an offer passes control, and a bad one leaves the offerer in doubt; an answer of which nothing is shown is over; and an
+//! answer is abandoned in its tick, and sent on beside the command that supersedes it until that is for its terminal.
 #![tactic(auto)]
 
 pub mod abandoning;
