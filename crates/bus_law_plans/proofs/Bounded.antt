@@ -160,7 +160,7 @@ record AfterAttempt (address : ℕ) (choice : Choice) (begun : Begun) (outcome :
   before : find (is_at address) stations ≡ Some t
   now : find (is_at address) (with_station address (after_attempt begun outcome choice) stations) ≡ Some (after_attempt begun outcome choice t)
 
-find-changed : (address : ℕ) (change : Present → Present) → ((s : Present) → address_of_station (change s) ≡ address_of_station s) → (stations : List Present)
+pub find-changed : (address : ℕ) (change : Present → Present) → ((s : Present) → address_of_station (change s) ≡ address_of_station s) → (stations : List Present)
     (s : Present) → find (is_at address) stations ≡ Some s → find (is_at address) (with_station address change stations) ≡ Some (change s)
 find-changed address change same [] s found = absurd (none-some s found)
 find-changed address change same (a ∷ stations) s found = elim (cases_Bool (is_at address a)) [

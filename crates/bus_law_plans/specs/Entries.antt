@@ -1,5 +1,5 @@
 -- What holds of the stations in each run of an accepted plan: what is left of their agendas, and who serves (the project's own).
-use Rattle.std.specs.Prelude.{◌≡◌, ℕ, Bool, not, ◌==◌, List, map, drop, Contains, None, IsSome, IsSomeAnd}
+use Rattle.std.specs.Prelude.{◌≡◌, ℕ, Bool, not, ◌==◌, List, map, drop, Contains, None, IfSome, IsSome, IsSomeAnd}
 use Rattle.std.specs.List.{AllByRecursion as Each, AllZip}
 use Rattle.bus_base.specs.Samples.{other_of}
 use Rattle.bus_base.specs.declared.samples.Channel.{Channel}
@@ -48,3 +48,8 @@ pub record IsSupersededNext (run : Run) (old : ShownAnswer) : Type 0 where
   pub opening : SupersedesOn (other_of old.sent.channel) run.opening
   pub retry : run.retry ≡ None
   pub next : IsSomeAnd (next_item run) (λ next. Supersedes old.sent.address next.entry.item.kind)
+
+-- while an abandoned answer runs on, and only then, the next message supersedes it
+pub record KeepsSuperseding (run : Run) : Type 0 where
+  pub followed : IfSome run.runs_on (λ old. IsSupersededNext run old)
+  pub awaited : (tick : ℕ) (channel : Channel) → run.opening ≡ superseding tick channel → IsSome run.runs_on

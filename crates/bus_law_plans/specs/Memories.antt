@@ -1,6 +1,7 @@
 -- What terminals keep in each run of an accepted plan: blocks of at most 32 words, and words of sixteen bits (MIL-STD-1553B 4.3.3.5.1.5).
-use Rattle.std.specs.Prelude.{ℕ, ◌<◌, ◌≤◌, List, length}
+use Rattle.std.specs.Prelude.{ℕ, ◌<◌, ◌≤◌, List, length, All}
 use Rattle.std.specs.List.{AllByRecursion as Each}
+use Rattle.bus_words.specs.declared.word.Word.{Word}
 use Rattle.bus_formats.specs.Accepted.{AreWords}
 use Rattle.bus_formats.specs.declared.log.Registers.{Registers}
 use Rattle.bus_model.specs.Memory.{Memory, TimedLoad}
@@ -33,3 +34,9 @@ pub record HasWordRanges (station : Present) : Type 0 where
 
 abbrev pub KeepsWordRanges : Run → Type 0
 KeepsWordRanges run = Each HasWordRanges run.stations
+
+-- an answer: a status word and at most 32 others, each of sixteen bits
+pub record HasAnswerRanges (words : List Word) : Type 0 where
+  pub fit : All (λ (word : Word). word.bits < 65536) words
+  pub some : 0 < length words
+  pub few : length words ≤ 33

@@ -5,7 +5,7 @@ ghost use Rattle.bus_formats.specs.Accepted.{IsAccepted};
 ghost use Rattle.bus_formats.specs.Plans.{PlanData};
 ghost use Rattle.bus_model.specs.Memory.{TimedLoad};
 ghost use Rattle.bus_model.specs.Run.{Run, first_run, attempt, attempts_after};
-ghost use Rattle.bus_law_plans.specs.Entries.{IsRunOf};
+ghost use Rattle.bus_law_plans.specs.Entries.{IsRunOf, KeepsSuperseding};
 
 /// The run of an accepted plan is one of the plan: its stations are those of the plan in their order; what is left of each is a rest of its agenda,
 /// of which each entry is within its ranges and may be sent by it, and one that may be abandoned is followed by one that supersedes it; exactly the
@@ -17,4 +17,15 @@ pub fn entries_are_of_the_plan()
         IsRunOf plan (attempt k loads plan.faults run) }
     ensures each { (k : ℕ) (plan : PlanData) (loads : List TimedLoad) (n : ℕ) → IsAccepted plan →
         IsRunOf plan (attempts_after k loads plan.faults n (first_run plan)) }
+{}
+
+/// While an abandoned answer runs on, and only then, the next message supersedes it: it starts in the tick after, on the other channel, it is no retry,
+/// and it is a message to or from the terminal that answers, alone. So it is at the beginning, an attempt keeps it so, and so it is after any number of
+/// attempts.
+pub fn an_abandoned_answer_is_superseded_next()
+    ensures first { (plan : PlanData) → KeepsSuperseding (first_run plan) }
+    ensures next { (k : ℕ) (plan : PlanData) (loads : List TimedLoad) (run : Run) → IsAccepted plan → IsRunOf plan run → KeepsSuperseding run →
+        KeepsSuperseding (attempt k loads plan.faults run) }
+    ensures each { (k : ℕ) (plan : PlanData) (loads : List TimedLoad) (n : ℕ) → IsAccepted plan →
+        KeepsSuperseding (attempts_after k loads plan.faults n (first_run plan)) }
 {}
