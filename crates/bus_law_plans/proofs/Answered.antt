@@ -112,7 +112,7 @@ module _ (terminal : TerminalData) (memory : Memory) (c : Channel) (command : �
 filled-few : (count : ℕ) (words : List ℕ) → length (filled count words) ≤ count
 filled-few count words = omega (arith, length-take count (words ++ replicate count 0))
 
-count-few : (command : ℕ) → word_count command ≤ 32
+pub count-few : (command : ℕ) → word_count command ≤ 32
 count-few command = either (λ (n : ℕ). n ≤ 32) _ 32 (field_of command) (omega arith) (omega arith)
 
 answer-few : (terminal : TerminalData) (memory : Memory) (command : ℕ) → length (answer_data terminal memory command) ≤ 32

@@ -1,8 +1,7 @@
 -- Each attempt of a run keeps its bounds.
 use Rattle.std.proofs.Common.{◌≡◌, inl, inr, ℕ, suc, ◌+◌, ◌-◌, ◌<◌, ◌≤◌, Bool, true, false, List, [], ◌∷◌, length, map, Option, Some, None, refl, sym, ap, ◌∙◌, subst, arith, length-append}
 use Rattle.std.proofs.lemmas.Bool.{cases_Bool, true≢false}
-use Rattle.std.proofs.lemmas.List.{length-reverse, reverse-append}
-use Rattle.std.proofs.lemmas.Option.{none-some, same_Some}
+use Rattle.std.proofs.lemmas.List.{length-reverse}
 use Rattle.std.specs.Prelude.{IfSome, IsSome, not, reverse, drop, find, ◌==◌, if◌then◌else◌}
 use Rattle.std.specs.List.{AllByRecursion as Each, AllZip}
 use Rattle.std.proofs.lemmas.List.Elements.{recursion_from_All}
@@ -25,15 +24,15 @@ use Rattle.bus_model.specs.Starts.{Entry, Origin, Opening, usual, superseding, t
 use Rattle.bus_model.specs.Strikes.{burst_end, ShownAnswer}
 use Rattle.bus_law_plans.specs.Amounts.{ticks_before, Rises}
 use Rattle.bus_law_plans.specs.Bounds.{IsShort, frames_begun, ticks_bound, opening_tick, opening_need, planned_for, KeepsBounds}
-use Rattle.bus_law_plans.specs.Entries.{IsStationOf, IsRunOf}
+use Rattle.bus_law_plans.specs.Entries.{IsStationOf, IsRunOf, IsNext}
 use Rattle.bus_law_plans.specs.Sent.{begun_of, message_of}
 use Rattle.bus_law_plans.proofs.Growing.{Climbs, begun-by, same-changed, same-kept, all-grow, found-grows, all-climb}
-use Rattle.bus_law_plans.proofs.Lists.{each-append, each-weaker, zip-second, zip-with}
+use Rattle.bus_law_plans.proofs.Lists.{each-append, each-weaker, zip-second, zip-with, each-reverse, drop-none}
 use Rattle.bus_law_plans.proofs.Messages.{IsKept, message-kept}
 use Rattle.bus_law_plans.proofs.NextRun.{message-run, stations-addresses}
-use Rattle.bus_law_plans.proofs.Nexts.{IsNext, next-of}
+use Rattle.bus_law_plans.proofs.Nexts.{next-of}
 use Rattle.bus_law_plans.proofs.Shown.{IsPrompt, EndsShort, first-short, ends-soon, old-short, bursts-short, bursts-few, quiet-low}
-use Rattle.bus_law_plans.proofs.Stations.{Apart, apart-from, found-beside, find-here, find-later}
+use Rattle.bus_law_plans.proofs.Stations.{Apart, apart-from, found-beside, find-here, find-later, find-changed}
 use Rattle.bus_law_plans.proofs.Taking.{Taken, taken-by}
 
 -- ---- when an attempt starts
@@ -84,11 +83,6 @@ after-need Abandoned channel tick = omega arith
 after-need Yielded channel tick = omega arith
 
 -- ---- a list reversed
-
-pub each-reverse : {X : Type 0} (P : X → Type 0) (xs : List X) → Each P xs → Each P (reverse xs)
-each-reverse P [] all = tt
-each-reverse P (x ∷ xs) all =
-    subst (Each P) (sym (reverse-append (x ∷ []) xs)) (each-append P (reverse xs) (x ∷ []) (each-reverse P xs all.1) (all.0, tt))
 
 -- an answer that runs on, by a later bound
 some-later : (o : Option ShownAnswer) (low high : ℕ) → low ≤ high → IfSome o (λ a. (burst_end a.burst ≤ low) × IsShort a.burst) →
@@ -160,24 +154,6 @@ record AfterAttempt (address : ℕ) (choice : Choice) (begun : Begun) (outcome :
   before : find (is_at address) stations ≡ Some t
   now : find (is_at address) (with_station address (after_attempt begun outcome choice) stations) ≡ Some (after_attempt begun outcome choice t)
 
-pub find-changed : (address : ℕ) (change : Present → Present) → ((s : Present) → address_of_station (change s) ≡ address_of_station s) → (stations : List Present)
-    (s : Present) → find (is_at address) stations ≡ Some s → find (is_at address) (with_station address change stations) ≡ Some (change s)
-find-changed address change same [] s found = absurd (none-some s found)
-find-changed address change same (a ∷ stations) s found = elim (cases_Bool (is_at address a)) [
-  | inl here ↦
-      let now : Present = if is_at address a then change a else a in
-      let changed : now ≡ change a = ap (λ (b : Bool). if b then change a else a) here in
-      let at : is_at address now ≡ true = ap (is_at address) changed ∙ (ap (λ n. n == address) (same a) ∙ here) in
-      find-here address now (with_station address change stations) at
-      ∙ ap Some (changed ∙ ap change (same_Some a s (sym (find-here address a stations here) ∙ found)))
-  | inr away ↦
-      let now : Present = if is_at address a then change a else a in
-      let changed : now ≡ a = ap (λ (b : Bool). if b then change a else a) away in
-      let at : is_at address now ≡ false = ap (is_at address) changed ∙ away in
-      find-later address now (with_station address change stations) at
-      ∙ find-changed address change same stations s (sym (find-later address a stations away) ∙ found)
-]
-
 same-address : (choice : Choice) (begun : Begun) (outcome : Outcome) (s : Present) → address_of_station (after_attempt begun outcome choice s) ≡ address_of_station s
 same-address choice begun outcome s = refl
 
@@ -198,17 +174,13 @@ grows-by address origin bound Done begun outcome stations t entry later climbs f
     let there : find (is_at address) now ≡ Some (after_attempt begun outcome Done t) =
     find-changed address (after_attempt begun outcome Done) (same-address Done begun outcome) stations t found in
     let rest : begun-by (after_attempt begun outcome Done t) ≡ ticks_before t.plan later =
-    ap (λ l. ticks_before t.plan (drop 1 l)) left ∙ same-drop later in
+    ap (λ l. ticks_before t.plan (drop 1 l)) left ∙ ap (ticks_before t.plan) (drop-none later) in
     let low : ticks_before t.plan later + 0 ≤ ticks_before t.plan later = omega arith in
     record {
       grows = all;
       planned = subst (λ o. planned_for origin o ≤ bound + (frames_begun now - frames_begun stations)) (sym there)
           (omega (arith, grown, all, rest, planned));
     }
-  where
-    same-drop : (xs : List Entry) → ticks_before t.plan (drop 0 xs) ≡ ticks_before t.plan xs
-    same-drop [] = refl
-    same-drop (x ∷ xs) = refl
 grows-by address origin bound (Again state) begun outcome stations t entry later climbs found left planned =
     let now : List Present = with_station address (after_attempt begun outcome (Again state)) stations in
     let same : frames_begun now ≡ frames_begun stations = same-changed address (after_attempt begun outcome (Again state)) (λ s. refl) stations in

@@ -21,10 +21,10 @@ use Rattle.bus_law_plans.specs.Bounds.{IsShort, frames_begun, planned_for, Keeps
 use Rattle.bus_law_plans.specs.Entries.{IsRunOf}
 use Rattle.bus_law_plans.specs.Memories.{AreBlocks, KeepsWordRanges}
 use Rattle.bus_law_plans.specs.Sent.{begun_of, message_of}
-use Rattle.bus_law_plans.proofs.Bounded.{each-reverse, attempt-bounds}
+use Rattle.bus_law_plans.proofs.Bounded.{attempt-bounds}
 use Rattle.bus_law_plans.proofs.FirstRun.{first-run}
 use Rattle.bus_law_plans.proofs.Growing.{found-part, begun-low}
-use Rattle.bus_law_plans.proofs.Lists.{each-weaker}
+use Rattle.bus_law_plans.proofs.Lists.{each-weaker, each-reverse}
 use Rattle.bus_law_plans.proofs.NextRun.{attempt-run}
 use Rattle.bus_law_plans.proofs.Ranged.{first-keeps, attempt-ranges}
 

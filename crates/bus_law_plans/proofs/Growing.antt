@@ -16,7 +16,7 @@ use Rattle.bus_law_plans.specs.Amounts.{station_ticks, ticks_before, Rises}
 use Rattle.bus_law_plans.specs.Bounds.{frames_begun}
 use Rattle.bus_law_plans.specs.Entries.{IsStationOf, AreStationsOf}
 use Rattle.bus_law_plans.proofs.Agreed.{agreed}
-use Rattle.bus_law_plans.proofs.Lists.{zip-second}
+use Rattle.bus_law_plans.proofs.Lists.{zip-second, drop-none}
 use Rattle.bus_law_plans.proofs.Messages.{IsKept}
 use Rattle.bus_law_plans.proofs.Stations.{find-here, find-later}
 
@@ -47,13 +47,9 @@ station-climbs plan serving own s is =
 dropped : (s : Present) → Climbs s → begun-by s ≤ ticks_before s.plan (drop 1 s.left)
 dropped s climbs = by-left s.left climbs
   where
-    same-drop : (xs : List Entry) → ticks_before s.plan (drop 0 xs) ≡ ticks_before s.plan xs
-    same-drop [] = refl
-    same-drop (x ∷ xs) = refl
-
     by-left : (left : List Entry) → Rises s.plan left → ticks_before s.plan left ≤ ticks_before s.plan (drop 1 left)
     by-left [] h = omega arith
-    by-left (e ∷ later) h = omega (arith, h.0, same-drop later)
+    by-left (e ∷ later) h = omega (arith, h.0, ap (ticks_before s.plan) (drop-none later))
 
 -- ---- all stations
 
@@ -100,10 +96,6 @@ module _ (address : ℕ) (begun : Begun) (outcome : Outcome) where
         cons (if is_at address s then done s else s) (with_station address done stations),
       )
 
-  same-drop : (s : Present) (xs : List Entry) → ticks_before s.plan (drop 0 xs) ≡ ticks_before s.plan xs
-  same-drop s [] = refl
-  same-drop s (x ∷ xs) = refl
-
   -- by the ticks between the item that is done and the next
   pub found-grows : (stations : List Present) (s : Present) (entry : Entry) (later : List Entry) → Each Climbs stations → find (is_at address) stations ≡ Some s →
       s.left ≡ entry ∷ later → frames_begun stations + ticks_before s.plan later ≤ frames_begun (with_station address done stations) + entry.offset
@@ -113,7 +105,7 @@ module _ (address : ℕ) (begun : Begun) (outcome : Outcome) where
         let same : t ≡ s = same_Some t s (sym (find-here address t stations here) ∙ found) in
         let before : begun-by t ≡ entry.offset = ap begun-by same ∙ ap (ticks_before s.plan) left in
         let after : begun-by (if is_at address t then done t else t) ≡ ticks_before s.plan later =
-        ap (λ b. begun-by (if b then done t else t)) here ∙ (ap (λ x. begun-by (done x)) same ∙ (ap (λ l. ticks_before s.plan (drop 1 l)) left ∙ same-drop s later)) in
+        ap (λ b. begun-by (if b then done t else t)) here ∙ (ap (λ x. begun-by (done x)) same ∙ (ap (λ l. ticks_before s.plan (drop 1 l)) left ∙ ap (ticks_before s.plan) (drop-none later))) in
         omega (
           arith,
           before,

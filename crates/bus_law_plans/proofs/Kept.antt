@@ -24,6 +24,7 @@ use Rattle.bus_model.specs.Orders.{Duty, free, promises, Taken, Obeyed, answer, 
 use Rattle.bus_law_plans.specs.Memories.{IsBlock, AreBlocks, HasRegisterRanges, HasMemoryRanges}
 use Rattle.bus_law_plans.proofs.Lists.{either}
 use Rattle.bus_law_plans.proofs.Struck.{Slot}
+use Rattle.bus_law_plans.proofs.Answered.{count-few}
 
 abbrev pub IsWord : ℕ → Type 0
 IsWord w = w < 65536
@@ -97,9 +98,6 @@ data-read zero (slot ∷ slots) words fits is = absurd (none-some words is)
 data-read (suc n) [] words fits is = absurd (none-some words is)
 data-read (suc n) (slot ∷ slots) words fits is =
     one-read n (datum_in slot) (data_in n slots) words (λ w. datum-word slot w fits.0) (λ ws. data-read n slots ws fits.1) is
-
-count-few : (command : ℕ) → word_count command ≤ 32
-count-few command = either (λ (n : ℕ). n ≤ 32) _ 32 (field_of command) (omega arith) (omega arith)
 
 mode-few : (carries : Carries) → mode_words_after carries ≤ 32
 mode-few Nothing = omega arith

@@ -1,7 +1,10 @@
 -- Lists of which each element is as is said, and two lists side by side.
-use Rattle.std.proofs.Common.{◌≡◌, ℕ, zero, suc, Bool, true, false, List, [], ◌∷◌, ◌++◌, take, map, replicate, refl}
-use Rattle.std.specs.Prelude.{if◌then◌else◌}
+use Rattle.std.proofs.Common.{◌≡◌, ℕ, zero, suc, Bool, true, false, List, [], ◌∷◌, ◌++◌, take, map, replicate, refl, sym, ap, subst, arith, drop}
+use Rattle.std.specs.Prelude.{if◌then◌else◌, ◌&&◌, ◌==◌, reverse}
 use Rattle.std.specs.List.{AllByRecursion as Each, AllZip}
+use Rattle.std.proofs.lemmas.List.{reverse-append}
+use Rattle.std.proofs.lemmas.Bool.{true≢false}
+use Rattle.std.proofs.lemmas.Bool.Decides.{nat_tests}
 
 -- ---- choices
 
@@ -14,6 +17,17 @@ either P false x y first second = second
 pub either-by : {X : Type 0} (P : X → Type 0) (b : Bool) (x y : X) → (b ≡ true → P x) → (b ≡ false → P y) → P (if b then x else y)
 either-by P true x y first second = first refl
 either-by P false x y first second = second refl
+
+pub skips : {X : Type 0} (b : Bool) (x y : X) → b ≡ false → (if b then x else y) ≡ y
+skips b x y off = ap (λ (t : Bool). if t then x else y) off
+
+pub and-both : (a b : Bool) → (a && b) ≡ true → (a ≡ true) × (b ≡ true)
+and-both true true h = (refl, refl)
+and-both true false h = absurd (true≢false (sym h))
+and-both false b h = absurd (true≢false (sym h))
+
+pub same-number : (m n : ℕ) → (m == n) ≡ true → m ≡ n
+same-number m n is = grind (arith, nat_tests, is)
 
 -- ---- each element
 
@@ -46,6 +60,15 @@ each-take P (suc n) (x ∷ xs) all = (all.0, each-take P n xs all.1)
 pub each-replicate : {X : Type 0} (P : X → Type 0) (n : ℕ) (x : X) → P x → Each P (replicate n x)
 each-replicate P zero x h = tt
 each-replicate P (suc n) x h = (h, each-replicate P n x h)
+
+pub each-reverse : {X : Type 0} (P : X → Type 0) (xs : List X) → Each P xs → Each P (reverse xs)
+each-reverse P [] all = tt
+each-reverse P (x ∷ xs) all =
+    subst (Each P) (sym (reverse-append (x ∷ []) xs)) (each-append P (reverse xs) (x ∷ []) (each-reverse P xs all.1) (all.0, tt))
+
+pub drop-none : {X : Type 0} (xs : List X) → drop 0 xs ≡ xs
+drop-none [] = refl
+drop-none (x ∷ xs) = refl
 
 -- ---- two lists
 

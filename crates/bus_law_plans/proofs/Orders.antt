@@ -13,6 +13,7 @@ use Rattle.bus_formats.specs.Readings.{command_in, data_in}
 use Rattle.bus_model.specs.Commands.{relay_from, carries, transmitter_in, relay_in, tail_by, tail_of, words_after}
 use Rattle.bus_model.specs.Orders.{is_for, command_for, Order, order_with, last_order}
 use Rattle.bus_law_plans.proofs.Lengths.{AreShown, IsZero}
+use Rattle.bus_law_plans.proofs.Lists.{skips}
 
 -- ---- the fields of a command word
 
@@ -40,9 +41,6 @@ plain-mode bits sub is some low = grind (arith, nat_tests, is, some, low)
 pub mode-is : (bits sub : ℕ) → sub_of bits ≡ sub → (sub ≡ 0) ⊎ (sub ≡ 31) → is_mode bits ≡ true
 mode-is bits sub is (inl none) = grind (arith, nat_tests, is, none)
 mode-is bits sub is (inr all) = grind (arith, nat_tests, is, all)
-
-skips : {X : Type 0} (b : Bool) (x y : X) → b ≡ false → (if b then x else y) ≡ y
-skips b x y off = ap (λ (t : Bool). if t then x else y) off
 
 full-count : (n : ℕ) → 1 ≤ n → n ≤ 32 → (if n % 32 == 0 then 32 else n % 32) ≡ n
 full-count n some few = elim (cases_eq n 32) [

@@ -31,7 +31,7 @@ whole-end burst whole few = omega (arith, whole, few)
 
 -- ---- a command
 
-data-long : (words : List ℕ) → length (map data_word words) ≡ length words
+pub data-long : (words : List ℕ) → length (map data_word words) ≡ length words
 data-long [] = refl
 data-long (w ∷ words) = ap suc (data-long words)
 

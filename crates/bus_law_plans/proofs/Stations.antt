@@ -99,6 +99,24 @@ changed-zip R S address change here other (x ∷ xs) [] all = absurd all
 changed-zip R S address change here other (x ∷ xs) (s ∷ stations) all =
     (either-by (S x) (is_at address s) (change s) s (here x s all.0) (other x s all.0), changed-zip R S address change here other xs stations all.1)
 
+pub find-changed : (address : ℕ) (change : Present → Present) → ((s : Present) → address_of_station (change s) ≡ address_of_station s) → (stations : List Present)
+    (s : Present) → find (is_at address) stations ≡ Some s → find (is_at address) (with_station address change stations) ≡ Some (change s)
+find-changed address change same [] s found = absurd (none-some s found)
+find-changed address change same (a ∷ stations) s found = elim (cases_Bool (is_at address a)) [
+  | inl here ↦
+      let now : Present = if is_at address a then change a else a in
+      let changed : now ≡ change a = ap (λ (b : Bool). if b then change a else a) here in
+      let at : is_at address now ≡ true = ap (is_at address) changed ∙ (ap (λ n. n == address) (same a) ∙ here) in
+      find-here address now (with_station address change stations) at
+      ∙ ap Some (changed ∙ ap change (same_Some a s (sym (find-here address a stations here) ∙ found)))
+  | inr away ↦
+      let now : Present = if is_at address a then change a else a in
+      let changed : now ≡ a = ap (λ (b : Bool). if b then change a else a) away in
+      let at : is_at address now ≡ false = ap (is_at address) changed ∙ away in
+      find-later address now (with_station address change stations) at
+      ∙ find-changed address change same stations s (sym (find-later address a stations away) ∙ found)
+]
+
 -- ---- contained
 
 pub contains-here : (x : ℕ) (xs : List ℕ) → Contains (x ∷ xs) x

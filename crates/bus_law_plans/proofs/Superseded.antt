@@ -26,21 +26,20 @@ use Rattle.bus_model.specs.Message.{Present, address_of_station, Message, answer
 use Rattle.bus_model.specs.Run.{Run, Next, is_at, with_station, after_attempt, next_item, next_by, next_in, pass_control, with_message, next_attempt, attempt, attempts_after, first_run}
 use Rattle.bus_model.specs.Starts.{Entry, retry_by, superseding, opening_after}
 use Rattle.bus_model.specs.Strikes.{hits_on, struck, ShownBurst, Answer, ShownAnswer}
-use Rattle.bus_law_plans.specs.Entries.{items_of, IsRunOf, SupersedesOn, IsSupersededNext, KeepsSuperseding}
+use Rattle.bus_law_plans.specs.Entries.{items_of, IsRunOf, SupersedesOn, IsSupersededNext, KeepsSuperseding, IsNext}
 use Rattle.bus_law_plans.specs.Sent.{begun_of, message_of}
 use Rattle.bus_law_plans.proofs.Answered.{IsAnswerOf, replied-by, IsShownOf, shown-of}
-use Rattle.bus_law_plans.proofs.Bounded.{find-changed}
 use Rattle.bus_law_plans.proofs.EachRun.{each-run}
 use Rattle.bus_law_plans.proofs.FirstRun.{first-run}
 use Rattle.bus_law_plans.proofs.Lengths.{AreShown, Sole, distinct-from, sole-of, struck-shown}
-use Rattle.bus_law_plans.proofs.Lists.{each-always}
+use Rattle.bus_law_plans.proofs.Lists.{each-always, drop-none}
 use Rattle.bus_law_plans.proofs.Messages.{told, replied, ending-is, IsKept, message-kept}
-use Rattle.bus_law_plans.proofs.Nexts.{IsNext, next-of}
+use Rattle.bus_law_plans.proofs.Nexts.{next-of}
 use Rattle.bus_law_plans.proofs.NextRun.{attempt-run}
 use Rattle.bus_law_plans.proofs.NotAbandoned.{ending-abandons, opens-abandoned}
 use Rattle.bus_law_plans.proofs.Orders.{single-order, address-is}
 use Rattle.bus_law_plans.proofs.Singles.{own-address}
-use Rattle.bus_law_plans.proofs.Stations.{found-beside}
+use Rattle.bus_law_plans.proofs.Stations.{found-beside, find-changed}
 
 -- ---- an ending by which an answer runs on
 
@@ -158,10 +157,6 @@ follows (Mode to mode_sub transmit code word) later h = absurd h
 follows (Transmit from sub count) [] h = absurd h
 follows (Transmit from sub count) (next ∷ others) h =
     record { from = from; sub = sub; count = count; kind_is = refl; next = next; others = others; later_is = refl; supersedes = h }
-
-drop-none : (xs : List Entry) → drop 0 xs ≡ xs
-drop-none [] = refl
-drop-none (x ∷ xs) = refl
 
 next-there : (s : Present) (left : List Entry) (next : Entry) (others : List Entry) (P : Entry → Type 0) → left ≡ next ∷ others → P next →
     IsSomeAnd (next_in s left) (λ n. P n.entry)

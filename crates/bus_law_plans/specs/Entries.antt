@@ -1,12 +1,12 @@
 -- What holds of the stations in each run of an accepted plan: what is left of their agendas, and who serves (the project's own).
-use Rattle.std.specs.Prelude.{◌≡◌, ℕ, Bool, not, ◌==◌, List, map, drop, Contains, None, IfSome, IsSome, IsSomeAnd}
+use Rattle.std.specs.Prelude.{◌≡◌, ℕ, Bool, not, ◌==◌, List, ◌∷◌, map, drop, find, Contains, Some, None, IfSome, IsSome, IsSomeAnd}
 use Rattle.std.specs.List.{AllByRecursion as Each, AllZip}
 use Rattle.bus_base.specs.Samples.{other_of}
 use Rattle.bus_base.specs.declared.samples.Channel.{Channel}
 use Rattle.bus_formats.specs.Accepted.{HasItemRanges, IsSendable, Supersedes, HasSuperseding, addresses}
 use Rattle.bus_formats.specs.Plans.{ItemData, StationData, PlanData}
 use Rattle.bus_model.specs.Message.{Present}
-use Rattle.bus_model.specs.Run.{Run, next_item}
+use Rattle.bus_model.specs.Run.{Run, Next, is_at, next_item}
 use Rattle.bus_model.specs.Starts.{Entry, agenda, Opening, superseding, taking}
 use Rattle.bus_model.specs.Strikes.{ShownAnswer}
 
@@ -37,6 +37,16 @@ pub record IsRunOf (plan : PlanData) (run : Run) : Type 0 where
   pub stations : AreStationsOf plan run.holder plan.stations run.stations
   pub holder : Contains (addresses plan) run.holder
   pub taken : (tick : ℕ) → run.opening ≡ taking tick → IsSome (next_item run)
+
+-- the next item of a run is the first that is left of the station that holds control, which may send it
+pub record IsNext (plan : PlanData) (run : Run) (next : Next) : Type 0 where
+  pub found : find (is_at run.holder) run.stations ≡ Some next.station
+  pub later : List Entry
+  pub left : next.station.left ≡ next.entry ∷ later
+  pub own : StationData
+  pub holder_is : own.terminal.address ≡ run.holder
+  pub is : IsStationOf plan (not (own.terminal.address == run.holder)) own next.station
+  pub entry : IsEntryOf plan own.terminal.address next.entry
 
 -- the next message starts in a tick, on this channel
 abbrev pub SupersedesOn : Channel → Opening → Type 0

@@ -1,11 +1,11 @@
 //! Which stations and items each run of an accepted plan has. Laws alone, each the contract of an empty function.
 
-ghost use Rattle.std.specs.Prelude.{ℕ, List};
+ghost use Rattle.std.specs.Prelude.{◌≡◌, ℕ, List, Some};
 ghost use Rattle.bus_formats.specs.Accepted.{IsAccepted};
 ghost use Rattle.bus_formats.specs.Plans.{PlanData};
 ghost use Rattle.bus_model.specs.Memory.{TimedLoad};
-ghost use Rattle.bus_model.specs.Run.{Run, first_run, attempt, attempts_after};
-ghost use Rattle.bus_law_plans.specs.Entries.{IsRunOf, KeepsSuperseding};
+ghost use Rattle.bus_model.specs.Run.{Run, Next, next_item, first_run, attempt, attempts_after};
+ghost use Rattle.bus_law_plans.specs.Entries.{IsRunOf, IsNext, KeepsSuperseding};
 
 /// The run of an accepted plan is one of the plan: its stations are those of the plan in their order; what is left of each is a rest of its agenda,
 /// of which each entry is within its ranges and may be sent by it, and one that may be abandoned is followed by one that supersedes it; exactly the
@@ -17,6 +17,11 @@ pub fn entries_are_of_the_plan()
         IsRunOf plan (attempt k loads plan.faults run) }
     ensures each { (k : ℕ) (plan : PlanData) (loads : List TimedLoad) (n : ℕ) → IsAccepted plan →
         IsRunOf plan (attempts_after k loads plan.faults n (first_run plan)) }
+{}
+
+/// The next item of a run is the first that is left of the station that holds control, and that station may send it.
+pub fn the_next_item_may_be_sent()
+    ensures { (plan : PlanData) (run : Run) (next : Next) → IsRunOf plan run → next_item run ≡ Some next → IsNext plan run next }
 {}
 
 /// While an abandoned answer runs on, and only then, the next message supersedes it: it starts in the tick after, on the other channel, it is no retry,

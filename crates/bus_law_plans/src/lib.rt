@@ -10,5 +10,7 @@ pub mod memories;
 pub use amounts::an_agenda_has_so_many_attempts;
 pub use bounds::a_run_keeps_its_bounds;
 pub use deliveries::deliveries_are_sent_blocks;
-pub use entries::{an_abandoned_answer_is_superseded_next, entries_are_of_the_plan};
+pub use entries::{
+    an_abandoned_answer_is_superseded_next, entries_are_of_the_plan, the_next_item_may_be_sent,
+};
 pub use memories::{answers_keep_word_ranges, memories_keep_word_ranges};
