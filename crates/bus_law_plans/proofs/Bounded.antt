@@ -23,10 +23,10 @@ use Rattle.bus_model.specs.Run.{Run, Next, is_at, with_station, after_attempt, n
 use Rattle.bus_model.specs.Starts.{Entry, Origin, Opening, usual, superseding, taking, opening_after, planned_start, planned_at, quiet_for, earliest_for, start_of}
 use Rattle.bus_model.specs.Strikes.{burst_end, ShownAnswer}
 use Rattle.bus_law_plans.specs.Amounts.{ticks_before, Rises}
-use Rattle.bus_law_plans.specs.Bounds.{IsShort, frames_begun, ticks_bound, opening_tick, opening_need, planned_for, KeepsBounds}
+use Rattle.bus_law_plans.specs.Bounds.{IsShort, frame_ticks_before, ticks_bound, opening_tick, opening_need, planned_for, KeepsBounds}
 use Rattle.bus_law_plans.specs.Entries.{IsStationOf, IsRunOf, IsNext}
 use Rattle.bus_law_plans.specs.Sent.{begun_of, message_of}
-use Rattle.bus_law_plans.proofs.Growing.{Climbs, begun-by, same-changed, same-kept, all-grow, found-grows, all-climb}
+use Rattle.bus_law_plans.proofs.Growing.{IsRising, begun-by, same-changed, same-kept, all-grow, found-grows, all-rising}
 use Rattle.bus_law_plans.proofs.Lists.{each-append, each-weaker, zip-second, zip-with, each-reverse, drop-none}
 use Rattle.bus_law_plans.proofs.Messages.{IsKept, message-kept}
 use Rattle.bus_law_plans.proofs.NextRun.{message-run, stations-addresses}
@@ -129,7 +129,7 @@ taken-bounds : (run : Run) (address tick : ℕ) → KeepsBounds run → tick ≤
 taken-bounds run address tick is within some =
     let given : List Present = with_station run.holder (λ s. record s { serves = true }) run.stations in
     let now : List Present = with_station address (λ s. record s { serves = false }) given in
-    let same : frames_begun now ≡ frames_begun run.stations =
+    let same : frame_ticks_before now ≡ frame_ticks_before run.stations =
     same-changed address (λ s. record s { serves = false }) (λ s. refl) given ∙ same-changed run.holder (λ s. record s { serves = true }) (λ s. refl) run.stations in
     let left : left_at (find (is_at address) now) ≡ left_at (find (is_at address) given) =
     left-kept address address (λ s. record s { serves = false }) (λ s. refl) (λ s. refl) given in
@@ -157,20 +157,20 @@ record AfterAttempt (address : ℕ) (choice : Choice) (begun : Begun) (outcome :
 same-address : (choice : Choice) (begun : Begun) (outcome : Outcome) (s : Present) → address_of_station (after_attempt begun outcome choice s) ≡ address_of_station s
 same-address choice begun outcome s = refl
 
--- the frames behind all stations, and the planned start of the holder's next frame
+-- the ticks of the frames before grow, and the planned start of the holder's next frame stays within its bound
 record Grows (address : ℕ) (origin : Origin) (bound frames : ℕ) (stations : List Present) : Type 0 where
-  grows : frames ≤ frames_begun stations
-  planned : planned_for origin (find (is_at address) stations) ≤ bound + (frames_begun stations - frames)
+  grows : frames ≤ frame_ticks_before stations
+  planned : planned_for origin (find (is_at address) stations) ≤ bound + (frame_ticks_before stations - frames)
 
 grows-by : (address : ℕ) (origin : Origin) (bound : ℕ) (choice : Choice) (begun : Begun) (outcome : Outcome) (stations : List Present) (t : Present) (entry : Entry)
-    (later : List Entry) → Each Climbs stations → find (is_at address) stations ≡ Some t → t.left ≡ entry ∷ later →
+    (later : List Entry) → Each IsRising stations → find (is_at address) stations ≡ Some t → t.left ≡ entry ∷ later →
     origin.tick + (entry.offset - origin.offset) ≤ bound →
-    Grows address origin bound (frames_begun stations) (with_station address (after_attempt begun outcome choice) stations)
-grows-by address origin bound Done begun outcome stations t entry later climbs found left planned =
+    Grows address origin bound (frame_ticks_before stations) (with_station address (after_attempt begun outcome choice) stations)
+grows-by address origin bound Done begun outcome stations t entry later rising found left planned =
     let now : List Present = with_station address (after_attempt begun outcome Done) stations in
-    let grown : frames_begun stations + ticks_before t.plan later ≤ frames_begun now + entry.offset =
-    found-grows address begun outcome stations t entry later climbs found left in
-    let all : frames_begun stations ≤ frames_begun now = all-grow address begun outcome stations climbs in
+    let grown : frame_ticks_before stations + ticks_before t.plan later ≤ frame_ticks_before now + entry.offset =
+    found-grows address begun outcome stations t entry later rising found left in
+    let all : frame_ticks_before stations ≤ frame_ticks_before now = all-grow address begun outcome stations rising in
     let there : find (is_at address) now ≡ Some (after_attempt begun outcome Done t) =
     find-changed address (after_attempt begun outcome Done) (same-address Done begun outcome) stations t found in
     let rest : begun-by (after_attempt begun outcome Done t) ≡ ticks_before t.plan later =
@@ -178,18 +178,18 @@ grows-by address origin bound Done begun outcome stations t entry later climbs f
     let low : ticks_before t.plan later + 0 ≤ ticks_before t.plan later = omega arith in
     record {
       grows = all;
-      planned = subst (λ o. planned_for origin o ≤ bound + (frames_begun now - frames_begun stations)) (sym there)
+      planned = subst (λ o. planned_for origin o ≤ bound + (frame_ticks_before now - frame_ticks_before stations)) (sym there)
           (omega (arith, grown, all, rest, planned));
     }
-grows-by address origin bound (Again state) begun outcome stations t entry later climbs found left planned =
+grows-by address origin bound (Again state) begun outcome stations t entry later rising found left planned =
     let now : List Present = with_station address (after_attempt begun outcome (Again state)) stations in
-    let same : frames_begun now ≡ frames_begun stations = same-changed address (after_attempt begun outcome (Again state)) (λ s. refl) stations in
+    let same : frame_ticks_before now ≡ frame_ticks_before stations = same-changed address (after_attempt begun outcome (Again state)) (λ s. refl) stations in
     let there : find (is_at address) now ≡ Some (after_attempt begun outcome (Again state) t) =
     find-changed address (after_attempt begun outcome (Again state)) (same-address (Again state) begun outcome) stations t found in
     let rest : begun-by t ≡ entry.offset = ap (ticks_before t.plan) left in
     record {
       grows = omega (arith, same);
-      planned = subst (λ o. planned_for origin o ≤ bound + (frames_begun now - frames_begun stations)) (sym there) (omega (arith, same, rest, planned));
+      planned = subst (λ o. planned_for origin o ≤ bound + (frame_ticks_before now - frame_ticks_before stations)) (sym there) (omega (arith, same, rest, planned));
     }
 
 -- ---- an attempt
@@ -257,22 +257,22 @@ module _ (k : ℕ) (low : k < 24) (plan : PlanData) (accepted : IsAccepted plan)
   kept : AllZip IsKept run.stations this.stations
   kept = message-kept k loads plan.faults number next.entry.item run.runs_on begun.state.channel begun.start run.stations
 
-  climbs-kept : (before later : List Present) → AllZip IsKept before later → Each Climbs before → Each Climbs later
-  climbs-kept [] [] zip all = tt
-  climbs-kept [] (t ∷ later) zip all = absurd zip
-  climbs-kept (s ∷ before) [] zip all = absurd zip
-  climbs-kept (s ∷ before) (t ∷ later) zip all = (
+  rising-kept : (before later : List Present) → AllZip IsKept before later → Each IsRising before → Each IsRising later
+  rising-kept [] [] zip all = tt
+  rising-kept [] (t ∷ later) zip all = absurd zip
+  rising-kept (s ∷ before) [] zip all = absurd zip
+  rising-kept (s ∷ before) (t ∷ later) zip all = (
     subst (λ p. Rises p t.left) (sym zip.0.plan_is)
         (subst (Rises s.plan) (sym zip.0.left_is) all.0),
-    climbs-kept before later zip.1 all.1,
+    rising-kept before later zip.1 all.1,
   )
 
-  grown : Grows run.holder run.origin bound (frames_begun run.stations) left-stations
+  grown : Grows run.holder run.origin bound (frame_ticks_before run.stations) left-stations
   grown =
       let there = found-beside IsKept (λ s t h. ap (λ (p : StationData). p.terminal.address) h.plan_is) run.holder run.stations this.stations next.station kept here.found in
       subst (λ n. Grows run.holder run.origin bound n left-stations) (same-kept run.stations this.stations kept)
       (grows-by run.holder run.origin bound choice begun this.ending.ended.outcome this.stations there.0 next.entry here.later
-      (climbs-kept run.stations this.stations kept (all-climb plan run.holder plan.stations run.stations is.stations)) there.1 (there.2.left_is ∙ here.left) planned-here)
+      (rising-kept run.stations this.stations kept (all-rising plan run.holder plan.stations run.stations is.stations)) there.1 (there.2.left_is ∙ here.left) planned-here)
 
   -- the run with the attempt, before control passes
   abbrev rest : Run

@@ -17,7 +17,7 @@ use Rattle.bus_model.specs.Message.{Present, Message}
 use Rattle.bus_model.specs.Run.{Run, Next, is_at, next_item, pass_control, with_message, next_attempt, attempt, attempts_after, most_attempts, first_run, run_of}
 use Rattle.bus_model.specs.Strikes.{ShownBurst, burst_ticks}
 use Rattle.bus_law_plans.specs.Amounts.{attempts_of, attempts_in, station_attempts, station_ticks}
-use Rattle.bus_law_plans.specs.Bounds.{IsShort, frames_begun, planned_for, KeepsBounds, IsWithinBounds}
+use Rattle.bus_law_plans.specs.Bounds.{IsShort, frame_ticks_before, planned_for, KeepsBounds, IsWithinBounds}
 use Rattle.bus_law_plans.specs.Entries.{IsRunOf}
 use Rattle.bus_law_plans.specs.Memories.{AreBlocks, KeepsWordRanges}
 use Rattle.bus_law_plans.specs.Sent.{begun_of, message_of}
@@ -49,7 +49,7 @@ each-ranged k plan loads n accepted blocks =
 -- ---- the bounds
 
 first-planned : (stations : List Present) (address : ℕ) (o : Option Present) → find (is_at address) stations ≡ o →
-    planned_for record { tick = 8; offset = 0 } o ≤ 8 + frames_begun stations
+    planned_for record { tick = 8; offset = 0 } o ≤ 8 + frame_ticks_before stations
 first-planned stations address None found = omega arith
 first-planned stations address (Some s) found = omega (arith, found-part address stations s found)
 

@@ -30,3 +30,4 @@ pub mod Delivered
 pub mod AllDelivered
 pub mod Superseded
 pub mod NotAbandoned
+pub mod Places

@@ -189,7 +189,7 @@ module _ (k : ℕ) (plan : PlanData) (accepted : IsAccepted plan) (loads : List 
       let after : Follows next.entry.item.kind here.later = follows next.entry.item.kind here.later (rule.0 by.may) in
       let ranges : HasKindRanges (Transmit after.from after.sub after.count) = subst HasKindRanges after.kind_is here.entry.ranges.kind in
       let sole : Sole (hits_on plan.faults number Command) = sole-of number Command plan.faults (distinct-from plan.faults accepted.faults) in
-      let teller = transmitter-is k loads plan.faults number next.entry.item run.runs_on begun.state.channel begun.start run.stations after.from after.sub after.count
+      let answering = transmitter-is k loads plan.faults number next.entry.item run.runs_on begun.state.channel begun.start run.stations after.from after.sub after.count
       after.kind_is ranges sole old by.first_is in
       let kept = found-beside IsKept (λ s t h. ap (λ (p : StationData). p.terminal.address) h.plan_is) run.holder run.stations this.stations next.station
       (message-kept k loads plan.faults number next.entry.item run.runs_on begun.state.channel begun.start run.stations) here.found in
@@ -199,14 +199,14 @@ module _ (k : ℕ) (plan : PlanData) (accepted : IsAccepted plan) (loads : List 
       find-changed run.holder (after_attempt begun this.ending.ended.outcome Done) (λ s. refl) this.stations kept.0 kept.1 in
       let left : (after_attempt begun this.ending.ended.outcome Done kept.0).left ≡ after.next ∷ after.others =
       ap (drop 1) (kept.2.left_is ∙ here.left) ∙ (drop-none here.later ∙ after.later_is) in
-      let supersedes : Supersedes old.sent.address after.next.item.kind = subst (λ a. Supersedes a after.next.item.kind) (sym teller.0) after.supersedes in
+      let supersedes : Supersedes old.sent.address after.next.item.kind = subst (λ a. Supersedes a after.next.item.kind) (sym answering.0) after.supersedes in
       let found : IsSomeAnd (next_by (find (is_at run.holder) (with_station run.holder (after_attempt begun this.ending.ended.outcome Done) this.stations)))
       (λ n. Supersedes old.sent.address n.entry.item.kind) =
       subst (λ o. IsSomeAnd (next_by o) (λ n. Supersedes old.sent.address n.entry.item.kind)) (sym there)
       (next-there (after_attempt begun this.ending.ended.outcome Done kept.0) _ after.next after.others (λ e. Supersedes old.sent.address e.item.kind) left supersedes) in (
         by.passes,
         record {
-          opening = subst (λ c. SupersedesOn (other_of c) (opening_after this.ending.ended.outcome begun.state.channel this.ending.tick)) (sym teller.1)
+          opening = subst (λ c. SupersedesOn (other_of c) (opening_after this.ending.ended.outcome begun.state.channel this.ending.tick)) (sym answering.1)
               (opens-on begun.state.channel this.ending.tick this.ending.ended.outcome by.outcome);
           retry = ap retry_by done;
           next = subst (λ c. IsSomeAnd (next_by (find (is_at run.holder) (with_station run.holder (after_attempt begun this.ending.ended.outcome c) this.stations)))

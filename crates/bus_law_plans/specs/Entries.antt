@@ -1,5 +1,5 @@
 -- What holds of the stations in each run of an accepted plan: what is left of their agendas, and who serves (the project's own).
-use Rattle.std.specs.Prelude.{◌≡◌, ℕ, Bool, not, ◌==◌, List, ◌∷◌, map, drop, find, Contains, Some, None, IfSome, IsSome, IsSomeAnd}
+use Rattle.std.specs.Prelude.{◌≡◌, ℕ, Bool, not, ◌==◌, List, [], ◌∷◌, map, drop, find, Contains, Some, None, IfSome, IsSome, IsSomeAnd}
 use Rattle.std.specs.List.{AllByRecursion as Each, AllZip}
 use Rattle.bus_base.specs.Samples.{other_of}
 use Rattle.bus_base.specs.declared.samples.Channel.{Channel}
@@ -7,9 +7,10 @@ use Rattle.bus_formats.specs.Accepted.{HasItemRanges, IsSendable, Supersedes, Ha
 use Rattle.bus_formats.specs.Plans.{ItemData, StationData, PlanData}
 use Rattle.bus_model.specs.Message.{Present}
 use Rattle.bus_model.specs.Run.{Run, Next, is_at, next_item}
-use Rattle.bus_model.specs.Starts.{Entry, agenda, Opening, superseding, taking}
+use Rattle.bus_model.specs.Starts.{Entry, agenda, Opening, usual, superseding, taking}
 use Rattle.bus_model.specs.Strikes.{ShownAnswer}
 
+-- the items of entries
 abbrev pub items_of : List Entry → List ItemData
 items_of entries = map (λ entry. entry.item) entries
 
@@ -48,7 +49,7 @@ pub record IsNext (plan : PlanData) (run : Run) (next : Next) : Type 0 where
   pub is : IsStationOf plan (not (own.terminal.address == run.holder)) own next.station
   pub entry : IsEntryOf plan own.terminal.address next.entry
 
--- the next message starts in a tick, on this channel
+-- the next message supersedes one that was abandoned, on this channel
 abbrev pub SupersedesOn : Channel → Opening → Type 0
 SupersedesOn channel (superseding tick other) = other ≡ channel
 SupersedesOn channel _ = ⊥
@@ -63,3 +64,13 @@ pub record IsSupersededNext (run : Run) (old : ShownAnswer) : Type 0 where
 pub record KeepsSuperseding (run : Run) : Type 0 where
   pub followed : IfSome run.runs_on (λ old. IsSupersededNext run old)
   pub awaited : (tick : ℕ) (channel : Channel) → run.opening ≡ superseding tick channel → IsSome run.runs_on
+
+-- the station that holds control has nothing left, no answer runs on, and nobody takes control
+pub record IsFinished (run : Run) : Type 0 where
+  pub runs_on : run.runs_on ≡ None
+  pub need : ℕ
+  pub tick : ℕ
+  pub opening_is : run.opening ≡ usual need tick
+  pub station : Present
+  pub found : find (is_at run.holder) run.stations ≡ Some station
+  pub left : station.left ≡ []

@@ -8,6 +8,7 @@ use Rattle.bus_model.specs.Memory.{Memory, TimedLoad}
 use Rattle.bus_model.specs.Message.{Present}
 use Rattle.bus_model.specs.Run.{Run}
 
+-- a block of a message: at most 32 data words
 pub record IsBlock (words : List ℕ) : Type 0 where
   pub few : length words ≤ 32
   pub spelled : AreWords words
@@ -16,22 +17,25 @@ pub record IsBlock (words : List ℕ) : Type 0 where
 abbrev pub AreBlocks : List TimedLoad → Type 0
 AreBlocks loads = Each (λ load. IsBlock load.words) loads
 
+-- the words in the registers
 pub record HasRegisterRanges (registers : Registers) : Type 0 where
   pub last : registers.last < 65536
   pub sync : registers.sync_word < 65536
 
+-- the registers, and each block
 pub record HasMemoryRanges (memory : Memory) : Type 0 where
   pub registers : HasRegisterRanges memory.registers
   pub received : Each IsBlock memory.received
   pub transmit : Each IsBlock memory.transmit
 
--- what the terminal may send beside its blocks
+-- what the terminal keeps, and what it may send beside that: the vector word, the BIT word, and its address in the status word
 pub record HasWordRanges (station : Present) : Type 0 where
   pub memory : HasMemoryRanges station.memory
   pub vector : station.plan.terminal.vector < 65536
   pub bit : station.plan.terminal.bit < 65536
   pub address : station.plan.terminal.address ≤ 31
 
+-- so it is with each station of the run
 abbrev pub KeepsWordRanges : Run → Type 0
 KeepsWordRanges run = Each HasWordRanges run.stations
 

@@ -1,11 +1,12 @@
 //! Which stations and items each run of an accepted plan has. Laws alone, each the contract of an empty function.
 
-ghost use Rattle.std.specs.Prelude.{◌≡◌, ℕ, List, Some};
+ghost use Rattle.std.specs.Prelude.{◌≡◌, ℕ, ◌==◌, not, List, slice_get, Some, None};
 ghost use Rattle.bus_formats.specs.Accepted.{IsAccepted};
-ghost use Rattle.bus_formats.specs.Plans.{PlanData};
+ghost use Rattle.bus_formats.specs.Plans.{StationData, PlanData};
 ghost use Rattle.bus_model.specs.Memory.{TimedLoad};
+ghost use Rattle.bus_model.specs.Message.{Present};
 ghost use Rattle.bus_model.specs.Run.{Run, Next, next_item, first_run, attempt, attempts_after};
-ghost use Rattle.bus_law_plans.specs.Entries.{IsRunOf, IsNext, KeepsSuperseding};
+ghost use Rattle.bus_law_plans.specs.Entries.{IsStationOf, IsRunOf, IsNext, KeepsSuperseding, IsFinished};
 
 /// The run of an accepted plan is one of the plan: its stations are those of the plan in their order; what is left of each is a rest of its agenda,
 /// of which each entry is within its ranges and may be sent by it, and one that may be abandoned is followed by one that supersedes it; exactly the
@@ -33,4 +34,15 @@ pub fn an_abandoned_answer_is_superseded_next()
         KeepsSuperseding (attempt k loads plan.faults run) }
     ensures each { (k : ℕ) (plan : PlanData) (loads : List TimedLoad) (n : ℕ) → IsAccepted plan →
         KeepsSuperseding (attempts_after k loads plan.faults n (first_run plan)) }
+{}
+
+/// Each station of the plan stands at its place in the run.
+pub fn a_station_keeps_its_place()
+    ensures { (plan : PlanData) (run : Run) (i : ℕ) (own : StationData) → IsRunOf plan run → slice_get plan.stations i ≡ Some own →
+        (s : Present) × (slice_get run.stations i ≡ Some s) × IsStationOf plan (not (own.terminal.address == run.holder)) own s }
+{}
+
+/// A run without a next item is finished: the station that holds control has nothing left, no abandoned answer runs on, and nobody takes control.
+pub fn a_run_without_a_next_item_is_finished()
+    ensures { (plan : PlanData) (run : Run) → IsRunOf plan run → KeepsSuperseding run → next_item run ≡ None → IsFinished run }
 {}
