@@ -311,6 +311,7 @@ module _ (k : ℕ) (low : k < 24) (plan : PlanData) (accepted : IsAccepted plan)
       let tick : p.tick ≤ ticks_bound rest = omega (arith, taken.tick, first.ends, ordered, grown.grows) in
       taken-bounds rest p.address p.tick rest-bounds tick (of.taken p.tick refl)
 
+  -- an attempt at the next item keeps the bounds
   pub message-bounds : KeepsBounds (with_message run begun choice this)
   message-bounds =
       by-passing this.ending.passes refl (message-run k plan loads run begun choice accepted is)

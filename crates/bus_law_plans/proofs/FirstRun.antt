@@ -20,6 +20,7 @@ first-station plan s ranges frames = record {
   serves = refl;
 }
 
+-- before the first attempt the run is one of its plan
 pub first-run : (plan : PlanData) → IsAccepted plan → IsRunOf plan (first_run plan)
 first-run plan accepted = record {
   stations = zip-map (λ s p. IsStationOf plan (not (s.terminal.address == plan.start)) s p) (first_present plan) plan.stations

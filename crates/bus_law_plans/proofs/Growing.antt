@@ -22,9 +22,11 @@ use Rattle.bus_law_plans.proofs.Stations.{find-here, find-later}
 
 -- ---- one station
 
+-- the ticks of the frames before the next item of a station
 abbrev pub begun-by : Present → ℕ
 begun-by s = ticks_before s.plan s.left
 
+-- they don't fall from item to item
 abbrev pub IsRising : Present → Type 0
 IsRising s = Rises s.plan s.left
 
@@ -34,10 +36,12 @@ rises-drop station zero (e ∷ entries) h = h
 rises-drop station (suc n) [] h = tt
 rises-drop station (suc n) (e ∷ entries) h = rises-drop station n entries h.1
 
+-- they are never more than those of all frames
 pub rises-low : (station : StationData) (entries : List Entry) → Rises station entries → ticks_before station entries ≤ station_ticks station
 rises-low station [] h = omega arith
 rises-low station (e ∷ entries) h = omega (arith, h.0, rises-low station entries h.1)
 
+-- so it is with each station of a run
 pub station-rising : (plan : PlanData) (serving : Bool) (own : StationData) (s : Present) → IsStationOf plan serving own s → IsRising s
 station-rising plan serving own s is =
     subst (λ p. Rises p s.left) (sym is.plan_is)
@@ -69,6 +73,7 @@ same-changed address change h (s ∷ stations) =
     by-test true = h s
     by-test false = refl
 
+-- a message leaves them
 pub same-kept : (before later : List Present) → AllZip IsKept before later → frame_ticks_before later ≡ frame_ticks_before before
 same-kept [] [] all = refl
 same-kept [] (t ∷ later) all = absurd all
@@ -85,6 +90,7 @@ module _ (address : ℕ) (begun : Begun) (outcome : Outcome) where
   one-grows s rising true = dropped s rising
   one-grows s rising false = omega arith
 
+  -- they don't fall where an item is done
   pub all-grow : (stations : List Present) → Each IsRising stations → frame_ticks_before stations ≤ frame_ticks_before (with_station address done stations)
   all-grow [] all = omega arith
   all-grow (s ∷ stations) all =
@@ -135,6 +141,7 @@ found-part address (t ∷ stations) s found = elim (cases_Bool (is_at address t)
   | inr other ↦ omega (arith, found-part address stations s (sym (find-later address t stations other) ∙ found), cons t stations)
 ]
 
+-- and with all of them
 pub all-rising : (plan : PlanData) (holder : ℕ) (own : List StationData) (stations : List Present) → AreStationsOf plan holder own stations → Each IsRising stations
 all-rising plan holder own stations all =
     zip-second (λ (o : StationData) (s : Present). IsStationOf plan (not (o.terminal.address == holder)) o s) IsRising

@@ -40,6 +40,7 @@ abbrev pub Distinct : List Fault → Type 0
 Distinct [] = Unit {0}
 Distinct (f ∷ faults) = Each (λ g. StrikesTheSame f g → ⊥) faults × Distinct faults
 
+-- by the rule of the plan
 pub distinct-from : (faults : List Fault) → AllPairs (λ a b. StrikesTheSame a b → ⊥) faults → Distinct faults
 distinct-from [] h = tt
 distinct-from (f ∷ faults) h = (
@@ -147,6 +148,7 @@ cut-shown (Fade word set ∷ hits) words slots h = cut-shown hits words slots h
 cut-shown (Extra more ∷ hits) words slots h = cut-shown hits words slots h
 cut-shown (Cut after ∷ hits) words slots h = cut-shown hits words (take after slots) (take-shown after words slots h)
 
+-- zeros are shown after all words
 pub zeros-shown : (zs : List (Option Word)) → Each IsZero zs → AreShown [] zs
 zeros-shown [] all = tt
 zeros-shown (z ∷ zs) all = all
@@ -193,6 +195,7 @@ long-by n slots words None rest h is = absurd (none-some words is)
 long-by n slots words (Some w) None h is = absurd (none-some words is)
 long-by n slots words (Some w) (Some ws) h is = ap suc (h ws refl)
 
+-- as many slots are read as are asked for
 pub read-long : (count : ℕ) (slots : List (Option Word)) (words : List ℕ) → data_in count slots ≡ Some words → length slots ≡ count
 read-long zero [] words is = refl
 read-long zero (slot ∷ slots) words is = absurd (none-some words is)

@@ -102,6 +102,7 @@ module _ (plan : PlanData) where
 
   -- ---- addresses
 
+  -- the stations of a run have the addresses of the plan
   pub stations-addresses : (holder : ℕ) (own : List StationData) (stations : List Present) → AreStationsOf plan holder own stations →
       map address_of_station stations ≡ map (λ (o : StationData). o.terminal.address) own
   stations-addresses holder [] [] all = refl
@@ -236,6 +237,7 @@ module _ (k : ℕ) (plan : PlanData) (loads : List TimedLoad) (run : Run) (begun
             (taker-next run.holder p.address run.stations (given-stations p.address) by.may.station (given-stays p.address) by.may.found other by.may.left);
       }
 
+  -- an attempt at the next item keeps the run one of its plan
   pub message-run : IsAccepted plan → IsRunOf plan run → IsRunOf plan (with_message run begun choice this)
   message-run accepted is = by-passing accepted is this.ending.passes refl _ refl refl refl
 

@@ -42,6 +42,7 @@ by-station plan run (Some s) next is h of at =
       entry = (subst (Each (IsEntryOf plan here.own.terminal.address)) left here.is.entries).0;
     }
 
+-- the next item is one of the station that holds control
 pub next-of : (plan : PlanData) (run : Run) (next : Next) → IsRunOf plan run → next_item run ≡ Some next → IsNext plan run next
 next-of plan run next is given =
     let each : Each (OfPlan plan run.holder) run.stations =

@@ -25,6 +25,7 @@ zip-at R (a ∷ xs) [] i x all at = absurd all
 zip-at R (a ∷ xs) (b ∷ ys) zero x all at = (b, refl, subst (λ c. R c b) (same_Some a x at) all.0)
 zip-at R (a ∷ xs) (b ∷ ys) (suc i) x all at = zip-at R xs ys i x all.1 at
 
+-- the station at a place is that of the plan
 pub station-at : (plan : PlanData) (run : Run) (i : ℕ) (own : StationData) → IsRunOf plan run → slice_get plan.stations i ≡ Some own →
     (s : Present) × (slice_get run.stations i ≡ Some s) × IsStationOf plan (not (own.terminal.address == run.holder)) own s
 station-at plan run i own is at =
@@ -45,6 +46,7 @@ find-contained address (s ∷ stations) (suc i) within at = elim (cases_Bool (is
   | inr other ↦ (let rest = find-contained address stations i (omega (arith, within)) at in (rest.0, find-later address s stations other ∙ rest.1))
 ]
 
+-- the station that holds control is there
 pub holder-found : (plan : PlanData) (run : Run) → IsRunOf plan run → (s : Present) × (find (is_at run.holder) run.stations ≡ Some s)
 holder-found plan run is =
     let same : map address_of_station run.stations ≡ addresses plan = stations-addresses plan run.holder plan.stations run.stations is.stations in
@@ -68,6 +70,7 @@ by-opening plan run is keeps none quiet (superseding tick channel) same =
     absurd (true≢false (sym (subst IsSome quiet (keeps.awaited tick channel same))))
 by-opening plan run is keeps none quiet (taking tick) same = absurd (true≢false (sym (subst IsSome none (is.taken tick same))))
 
+-- a run without a next item is finished
 pub finished : (plan : PlanData) (run : Run) → IsRunOf plan run → KeepsSuperseding run → next_item run ≡ None → IsFinished run
 finished plan run is keeps none =
     let quiet : run.runs_on ≡ None = no-answer run run.runs_on refl none keeps.followed in

@@ -136,6 +136,7 @@ module _ (k : ℕ) (loads : List TimedLoad) (blocks : AreBlocks loads) (faults :
   zip-last : (xs ys : List Present) → AllZip (λ x y. HasWordRanges y) xs ys → Each HasWordRanges ys
   zip-last xs ys zip = zip-second (λ x y. HasWordRanges y) HasWordRanges (λ x y h. h) xs ys zip
 
+  -- a message keeps the ranges of words
   pub message-ranges : Each HasWordRanges (message k loads faults n item on channel start stations).stations
   message-ranges =
       zip-last stations _
@@ -208,6 +209,7 @@ first-ranges plan s ranges =
       address = ranges.terminal.address;
     }
 
+-- before the first attempt they are kept
 pub first-keeps : (plan : PlanData) → IsAccepted plan → KeepsWordRanges (first_run plan)
 first-keeps plan accepted =
     each-map HasWordRanges (first_present plan) plan.stations
@@ -219,6 +221,7 @@ first-keeps plan accepted =
 fits-all : (words : List Word) → FitsAnswer words → HasAnswerRanges words
 fits-all words is = record { fit = All-from_recursion FitsWord words is.fit; some = is.some; few = is.few }
 
+-- the first answer has its ranges
 pub answer-ranged : (k : ℕ) (plan : PlanData) (loads : List TimedLoad) (run : Run) (next : Next) (answer : Answer) → AreBlocks loads → IsRunOf plan run →
     KeepsWordRanges run → next_item run ≡ Some next → let command : ShownBurst = command_of k loads plan.faults run (begun_of run next) in
     answer_to command (map (after_command k loads command) run.stations) ≡ Some answer → HasAnswerRanges answer.words
@@ -227,6 +230,7 @@ answer-ranged k plan loads run next answer blocks is all given found =
     fits-all answer.words (reply-fits k loads blocks plan.faults (suc (length run.attempts)) next.entry.item (next-of plan run next is given).entry.ranges
     run.runs_on begun.state.channel begun.start run.stations all answer found)
 
+-- and so has the second
 pub second-ranged : (k : ℕ) (plan : PlanData) (loads : List TimedLoad) (run : Run) (next : Next) (first : ShownAnswer) (answer : Answer) → AreBlocks loads →
     IsRunOf plan run → KeepsWordRanges run → next_item run ≡ Some next → first_of k loads plan.faults run (begun_of run next) ≡ Some first →
     let command : ShownBurst = command_of k loads plan.faults run (begun_of run next) in

@@ -33,6 +33,7 @@ use Rattle.bus_law_plans.proofs.Lists.{skips}
 
 -- ---- how many words are shown
 
+-- an extra adds no more words than it names
 pub struck-long : (hits : List Hit) (words : List Word) → length (struck hits words) ≤ length words + added_by hits
 struck-long hits words =
     let own : List (Option Word) = own_struck hits words in
@@ -45,6 +46,7 @@ struck-long hits words =
       length-replicate (added_by hits) (Some (data_word 0)),
     )
 
+-- a block that is filled up has as many words as are asked for
 pub filled-long : (count : ℕ) (words : List ℕ) → length (filled count words) ≡ count
 filled-long count words =
     omega (arith, length-take count (words ++ replicate count 0), length-append words (replicate count 0), length-replicate {A = ℕ} count 0)
@@ -53,9 +55,11 @@ module _ (from from_sub to to_sub count : ℕ) (sends : HasTransmitRanges from f
   abbrev field : ℕ
   field = count % 32
 
+  -- the first command, to the receivers
   abbrev pub receiving : ℕ
   receiving = command_bits to false to_sub field
 
+  -- the second command, to the transmitter
   abbrev pub sending : ℕ
   sending = command_bits from true from_sub field
 
@@ -182,6 +186,7 @@ module _ (from from_sub to to_sub count : ℕ) (sends : HasTransmitRanges from f
               (subst (λ c. IsData s.plan.terminal (memory_at k loads burst s) c of.is.words_sent) command of.is.sent);
         }
 
+    -- whoever answers the commands is the transmitter
     pub transmitters : (stations : List Present) (s : Present) → find (is_at (address_of_station s)) stations ≡ Some s → (a : Answer) →
         IsAnswerOf k loads burst s a → IsTransmitters stations a
     transmitters stations s found a of =

@@ -200,5 +200,6 @@ fold-low : (high tick : ℕ) (bursts : List ShownBurst) → tick ≤ high → Ea
 fold-low high tick [] low all = low
 fold-low high tick (burst ∷ bursts) low all = fold-low high (max tick (burst_end burst)) bursts (omega (arith, low, all.0.ends)) all.1
 
+-- both channels are quiet after the last of these bursts
 pub quiet-low : (high : ℕ) (bursts : List ShownBurst) → Each (EndsShort high) bursts → quiet_after bursts ≤ high
 quiet-low high bursts all = fold-low high 0 bursts (omega arith) all

@@ -87,6 +87,7 @@ pub record IsReceived (to sub : ℕ) (words : List ℕ) (own : ℕ) (block : Tak
   pub broadcast_is : block.broadcast ≡ (to == 31)
   pub own_is : to ≢ 31 → own ≡ to
 
+-- the block of a receive message is its own words
 pub receive-block : (to sub : ℕ) (words : List ℕ) (own : ℕ) (block : Taken) → HasReceiveRanges to sub (length words) →
     IsSingleBlock own (command_bits to false sub (length words % 32)) words block → IsReceived to sub words own block
 receive-block to sub words own block ranges by =

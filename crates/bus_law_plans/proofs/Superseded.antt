@@ -104,12 +104,14 @@ module _ (k : ℕ) (kind : Kind) (abandon : Option ℕ) where
   by-shape end (Some first) second (Some shape) old h =
       heard-on first second (abandoned_at k kind abandon end first) (may-abandon abandon end first) old h
 
+-- an answer runs on where its message is abandoned
 pub ending-abandoned : (k : ℕ) (item : ItemData) (end : ℕ) (first second : Option ShownAnswer) (old : ShownAnswer) →
     (ending_of k item end first second).runs_on ≡ Some old → IsAbandoned item.abandon first (ending_of k item end first second) old
 ending-abandoned k item end first second old h = by-shape k item.kind item.abandon end first second (answers_of item.kind).first old h
 
 -- ---- who answers a transmit message
 
+-- who answers a transmit message is the terminal that it names
 pub transmitter-is : (k : ℕ) (loads : List TimedLoad) (faults : List Fault) (n : ℕ) (item : ItemData) (on : Option ShownAnswer) (channel : Channel) (start : ℕ)
     (stations : List Present) (from sub count : ℕ) → item.kind ≡ Transmit from sub count → HasKindRanges (Transmit from sub count) → Sole (hits_on faults n Command) →
     (old : ShownAnswer) → replied k loads faults n item on channel start stations ≡ Some old → (old.sent.address ≡ from) × (old.sent.channel ≡ channel)
@@ -237,9 +239,11 @@ module _ (k : ℕ) (plan : PlanData) (accepted : IsAccepted plan) (loads : List 
     awaited = λ tick channel opens. cc;
   }
 
+  -- after an attempt at the next item an answer that runs on is superseded
   pub message-superseded : KeepsSuperseding (with_message run begun choice this)
   message-superseded = by-passing this.ending.passes refl
 
+-- an attempt keeps it so
 pub attempt-superseded : (k : ℕ) (plan : PlanData) (loads : List TimedLoad) (run : Run) → IsAccepted plan → IsRunOf plan run → KeepsSuperseding run →
     KeepsSuperseding (attempt k loads plan.faults run)
 attempt-superseded k plan loads run accepted is keeps = by-next (next_item run) refl
@@ -248,9 +252,11 @@ attempt-superseded k plan loads run accepted is keeps = by-next (next_item run) 
     by-next None given = keeps
     by-next (Some next) given = message-superseded k plan accepted loads run is next given
 
+-- before the first attempt none runs on
 pub first-superseded : (plan : PlanData) → KeepsSuperseding (first_run plan)
 first-superseded plan = record { followed = tt; awaited = λ tick channel opens. cc }
 
+-- so it is in each run
 pub each-superseded : (k : ℕ) (plan : PlanData) (loads : List TimedLoad) (n : ℕ) → IsAccepted plan →
     KeepsSuperseding (attempts_after k loads plan.faults n (first_run plan))
 each-superseded k plan loads n accepted =
