@@ -27,7 +27,8 @@ use Rattle.bus_law_plans.specs.Bounds.{IsShort, frame_ticks_before, ticks_bound,
 use Rattle.bus_law_plans.specs.Entries.{IsStationOf, IsRunOf, IsNext}
 use Rattle.bus_law_plans.specs.Sent.{begun_of, message_of}
 use Rattle.bus_law_plans.proofs.Growing.{IsRising, begun-by, same-changed, same-kept, all-grow, found-grows, all-rising}
-use Rattle.bus_law_plans.proofs.Lists.{each-append, each-weaker, zip-second, zip-with, each-reverse, drop-none}
+use Rattle.bus_law_plans.proofs.Lists.{each-append, each-weaker, zip-second, zip-with, drop-none}
+pub use Rattle.bus_law_plans.proofs.Lists.{each-reverse}
 use Rattle.bus_law_plans.proofs.Messages.{IsKept, message-kept}
 use Rattle.bus_law_plans.proofs.NextRun.{message-run, stations-addresses}
 use Rattle.bus_law_plans.proofs.Nexts.{next-of}

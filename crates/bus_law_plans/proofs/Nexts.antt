@@ -7,7 +7,8 @@ use Rattle.bus_formats.specs.Plans.{StationData, PlanData}
 use Rattle.bus_model.specs.Message.{Present, address_of_station}
 use Rattle.bus_model.specs.Run.{Run, Next, is_at, next_item, next_in, next_by}
 use Rattle.bus_model.specs.Starts.{Entry}
-use Rattle.bus_law_plans.specs.Entries.{IsEntryOf, IsStationOf, IsRunOf, IsNext}
+use Rattle.bus_law_plans.specs.Entries.{IsEntryOf, IsStationOf, IsRunOf}
+pub use Rattle.bus_law_plans.specs.Entries.{IsNext}
 use Rattle.bus_law_plans.proofs.Lists.{same-number, zip-second}
 use Rattle.bus_law_plans.proofs.Stations.{found-each}
 
