@@ -25,6 +25,7 @@ in-frames P frame offset (f ∷ frames) all =
     each-append (λ (e : Entry). P e.item) (entries_in frame offset 1 f.items) (entries_from (frame + 1) (offset + f.ticks) frames)
     (in-frame P frame offset 1 f.items all.0) (in-frames P (frame + 1) (offset + f.ticks) frames all.1)
 
+-- what holds of each frame holds of each of the frames repeated
 pub each-repeated : (n : ℕ) (P : FrameData → Type 0) (frames : List FrameData) → Each P frames → Each P (repeated n frames)
 each-repeated zero P frames all = tt
 each-repeated (suc n) P frames all = each-append P frames (repeated n frames) all (each-repeated n P frames all)

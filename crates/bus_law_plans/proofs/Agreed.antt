@@ -53,6 +53,7 @@ in-all s frame offset (f ∷ frames) total =
     let rest = in-all s (frame + 1) (offset + f.ticks) frames (omega (arith, total, cons)) in
     in-one s frame offset 1 f.items (entries_from (frame + 1) (offset + f.ticks) frames) (omega (arith, rest.1)) rest.0
 
+-- an agenda has the attempts of its frames, in their order
 pub agreed : (station : StationData) → HasAmounts station
 unfolding agenda
 agreed station = record {

@@ -1,7 +1,6 @@
 -- All blocks of a run were delivered whole, each by one of its attempts.
-use Rattle.std.proofs.Common.{◌≡◌, ℕ, zero, suc, Bool, true, false, List, Option, Some, None, refl, sym, arith}
-use Rattle.std.proofs.lemmas.Bool.{true≢false}
-use Rattle.std.specs.Prelude.{◌&&◌, reverse}
+use Rattle.std.proofs.Common.{◌≡◌, ℕ, zero, suc, true, List, Option, Some, None, refl, arith}
+use Rattle.std.specs.Prelude.{reverse}
 use Rattle.std.specs.List.{AllByRecursion as Each}
 use Rattle.bus_formats.specs.Accepted.{IsAccepted}
 use Rattle.bus_formats.specs.Plans.{PlanData}
@@ -12,15 +11,9 @@ use Rattle.bus_model.specs.Memory.{TimedLoad}
 use Rattle.bus_model.specs.Message.{Delivered, Message}
 use Rattle.bus_model.specs.Run.{Run, Next, next_item, pass_control, with_message, next_attempt, attempts_after, first_run}
 use Rattle.bus_law_plans.specs.Sent.{begun_of, message_of, IsSentBlock, IsDeliveredIn}
-use Rattle.bus_law_plans.proofs.Bounded.{each-reverse}
 use Rattle.bus_law_plans.proofs.Delivered.{delivers-whole}
 use Rattle.bus_law_plans.proofs.EachRun.{each-of-plan}
-use Rattle.bus_law_plans.proofs.Lists.{each-append, each-weaker}
-
-and-both : (a b : Bool) → (a && b) ≡ true → (a ≡ true) × (b ≡ true)
-and-both true true h = (refl, refl)
-and-both true false h = absurd (true≢false (sym h))
-and-both false b h = absurd (true≢false (sym h))
+use Rattle.bus_law_plans.proofs.Lists.{each-append, each-weaker, and-both, each-reverse}
 
 -- control that passes leaves the blocks, and whether no count was deceived
 passed : (P : List Delivered → Type 0) (passes : Option Passing) (run : Run) → (run.counted ≡ true → P run.deliveries) →

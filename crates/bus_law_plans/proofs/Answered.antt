@@ -42,6 +42,7 @@ pub record IsAnswer (terminal : TerminalData) (memory : Memory) (command : ℕ) 
   pub accepted : acceptance ≡ true → may ≡ true
 
 module _ (terminal : TerminalData) (memory : Memory) (c : Channel) (command : ℕ) (may : Bool) where
+  -- the answer is one to this command
   abbrev pub Is : List Word → Bool → Type 0
   Is words acceptance = IsAnswer terminal memory command may words acceptance
 
@@ -88,6 +89,7 @@ module _ (terminal : TerminalData) (memory : Memory) (c : Channel) (command : �
   by-tail (relay_from transmitter) = tt
   by-tail (carries words) = by-data words
 
+  -- what is owed to a command is an answer to it
   pub obeyed-owes : (slots : List (Option Word)) (rest : ℕ) → OwesSo (obey terminal memory c command slots rest may)
   obeyed-owes slots rest = by-tail (tail_of terminal.address command slots rest)
 
@@ -112,7 +114,8 @@ module _ (terminal : TerminalData) (memory : Memory) (c : Channel) (command : �
 filled-few : (count : ℕ) (words : List ℕ) → length (filled count words) ≤ count
 filled-few count words = omega (arith, length-take count (words ++ replicate count 0))
 
-count-few : (command : ℕ) → word_count command ≤ 32
+-- a command names at most 32 words
+pub count-few : (command : ℕ) → word_count command ≤ 32
 count-few command = either (λ (n : ℕ). n ≤ 32) _ 32 (field_of command) (omega arith) (omega arith)
 
 answer-few : (terminal : TerminalData) (memory : Memory) (command : ℕ) → length (answer_data terminal memory command) ≤ 32
@@ -123,6 +126,7 @@ answer-few terminal memory command =
     (either Few (is_mode command || not (is_transmit command) || terminal.busy) [] (filled (word_count command) (sending_on memory (sub_of command))) (omega arith)
     (omega (arith, filled-few (word_count command) (sending_on memory (sub_of command)), count-few command))))
 
+-- an answer has at most 32 data words
 pub data-few : (terminal : TerminalData) (memory : Memory) (command : ℕ) (words : List ℕ) → IsData terminal memory command words → length words ≤ 32
 data-few terminal memory command words (status_alone is) = rw is (omega arith)
 data-few terminal memory command words (last_command mode is) = rw is (omega arith)
@@ -209,6 +213,7 @@ shown-by hits a (slot ∷ slots) same shown is =
     same_Some _ _ is in
     subst (IsShownOf hits (Some a)) this record { sent = refl; hits_are = refl; channel = refl; start = refl; slots = sym same; rest = refl }
 
+-- an answer that is shown is the one that is sent, struck
 pub shown-of : (hits : List Hit) (answer : Option Answer) (shown : ShownAnswer) → shown_answer hits answer ≡ Some shown → IsShownOf hits answer shown
 shown-of hits None shown is = absurd (none-some shown is)
 shown-of hits (Some a) shown is = shown-by hits a (struck hits a.words) refl shown is

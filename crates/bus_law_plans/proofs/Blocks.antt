@@ -135,6 +135,7 @@ pub record TakesPromise (s : Present) (burst : ShownBurst) (P : ℕ → ℕ → 
   pub is : IsBlockOf command block
   pub relayed_is : relayed (word_count command) transmitter burst.slots burst.rest ≡ Some block.words
 
+-- a block that is taken of an answer was promised
 pub answer-told : (k : ℕ) (loads : List TimedLoad) (burst : ShownBurst) (P : ℕ → ℕ → Type 0) (s : Present) (duty : Duty) → Promise P duty → (block : Taken) →
     (after_answer_of k loads burst s duty).taken ≡ Some block → TakesPromise s burst P block
 answer-told k loads burst P s free h block is = absurd (none-some block is)

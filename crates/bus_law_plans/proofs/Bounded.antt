@@ -1,8 +1,7 @@
 -- Each attempt of a run keeps its bounds.
 use Rattle.std.proofs.Common.{◌≡◌, inl, inr, ℕ, suc, ◌+◌, ◌-◌, ◌<◌, ◌≤◌, Bool, true, false, List, [], ◌∷◌, length, map, Option, Some, None, refl, sym, ap, ◌∙◌, subst, arith, length-append}
 use Rattle.std.proofs.lemmas.Bool.{cases_Bool, true≢false}
-use Rattle.std.proofs.lemmas.List.{length-reverse, reverse-append}
-use Rattle.std.proofs.lemmas.Option.{none-some, same_Some}
+use Rattle.std.proofs.lemmas.List.{length-reverse}
 use Rattle.std.specs.Prelude.{IfSome, IsSome, not, reverse, drop, find, ◌==◌, if◌then◌else◌}
 use Rattle.std.specs.List.{AllByRecursion as Each, AllZip}
 use Rattle.std.proofs.lemmas.List.Elements.{recursion_from_All}
@@ -24,16 +23,17 @@ use Rattle.bus_model.specs.Run.{Run, Next, is_at, with_station, after_attempt, n
 use Rattle.bus_model.specs.Starts.{Entry, Origin, Opening, usual, superseding, taking, opening_after, planned_start, planned_at, quiet_for, earliest_for, start_of}
 use Rattle.bus_model.specs.Strikes.{burst_end, ShownAnswer}
 use Rattle.bus_law_plans.specs.Amounts.{ticks_before, Rises}
-use Rattle.bus_law_plans.specs.Bounds.{IsShort, frames_begun, ticks_bound, opening_tick, opening_need, planned_for, KeepsBounds}
-use Rattle.bus_law_plans.specs.Entries.{IsStationOf, IsRunOf}
+use Rattle.bus_law_plans.specs.Bounds.{IsShort, frame_ticks_before, ticks_bound, opening_tick, opening_need, planned_for, KeepsBounds}
+use Rattle.bus_law_plans.specs.Entries.{IsStationOf, IsRunOf, IsNext}
 use Rattle.bus_law_plans.specs.Sent.{begun_of, message_of}
-use Rattle.bus_law_plans.proofs.Growing.{Climbs, begun-by, same-changed, same-kept, all-grow, found-grows, all-climb}
-use Rattle.bus_law_plans.proofs.Lists.{each-append, each-weaker, zip-second, zip-with}
+use Rattle.bus_law_plans.proofs.Growing.{IsRising, begun-by, same-changed, same-kept, all-grow, found-grows, all-rising}
+use Rattle.bus_law_plans.proofs.Lists.{each-append, each-weaker, zip-second, zip-with, drop-none}
+pub use Rattle.bus_law_plans.proofs.Lists.{each-reverse}
 use Rattle.bus_law_plans.proofs.Messages.{IsKept, message-kept}
 use Rattle.bus_law_plans.proofs.NextRun.{message-run, stations-addresses}
-use Rattle.bus_law_plans.proofs.Nexts.{IsNext, next-of}
+use Rattle.bus_law_plans.proofs.Nexts.{next-of}
 use Rattle.bus_law_plans.proofs.Shown.{IsPrompt, EndsShort, first-short, ends-soon, old-short, bursts-short, bursts-few, quiet-low}
-use Rattle.bus_law_plans.proofs.Stations.{Apart, apart-from, found-beside, find-here, find-later}
+use Rattle.bus_law_plans.proofs.Stations.{Apart, apart-from, found-beside, find-here, find-later, find-changed}
 use Rattle.bus_law_plans.proofs.Taking.{Taken, taken-by}
 
 -- ---- when an attempt starts
@@ -85,11 +85,6 @@ after-need Yielded channel tick = omega arith
 
 -- ---- a list reversed
 
-pub each-reverse : {X : Type 0} (P : X → Type 0) (xs : List X) → Each P xs → Each P (reverse xs)
-each-reverse P [] all = tt
-each-reverse P (x ∷ xs) all =
-    subst (Each P) (sym (reverse-append (x ∷ []) xs)) (each-append P (reverse xs) (x ∷ []) (each-reverse P xs all.1) (all.0, tt))
-
 -- an answer that runs on, by a later bound
 some-later : (o : Option ShownAnswer) (low high : ℕ) → low ≤ high → IfSome o (λ a. (burst_end a.burst ≤ low) × IsShort a.burst) →
     IfSome o (λ a. (burst_end a.burst ≤ high) × IsShort a.burst)
@@ -135,7 +130,7 @@ taken-bounds : (run : Run) (address tick : ℕ) → KeepsBounds run → tick ≤
 taken-bounds run address tick is within some =
     let given : List Present = with_station run.holder (λ s. record s { serves = true }) run.stations in
     let now : List Present = with_station address (λ s. record s { serves = false }) given in
-    let same : frames_begun now ≡ frames_begun run.stations =
+    let same : frame_ticks_before now ≡ frame_ticks_before run.stations =
     same-changed address (λ s. record s { serves = false }) (λ s. refl) given ∙ same-changed run.holder (λ s. record s { serves = true }) (λ s. refl) run.stations in
     let left : left_at (find (is_at address) now) ≡ left_at (find (is_at address) given) =
     left-kept address address (λ s. record s { serves = false }) (λ s. refl) (λ s. refl) given in
@@ -160,64 +155,42 @@ record AfterAttempt (address : ℕ) (choice : Choice) (begun : Begun) (outcome :
   before : find (is_at address) stations ≡ Some t
   now : find (is_at address) (with_station address (after_attempt begun outcome choice) stations) ≡ Some (after_attempt begun outcome choice t)
 
-find-changed : (address : ℕ) (change : Present → Present) → ((s : Present) → address_of_station (change s) ≡ address_of_station s) → (stations : List Present)
-    (s : Present) → find (is_at address) stations ≡ Some s → find (is_at address) (with_station address change stations) ≡ Some (change s)
-find-changed address change same [] s found = absurd (none-some s found)
-find-changed address change same (a ∷ stations) s found = elim (cases_Bool (is_at address a)) [
-  | inl here ↦
-      let now : Present = if is_at address a then change a else a in
-      let changed : now ≡ change a = ap (λ (b : Bool). if b then change a else a) here in
-      let at : is_at address now ≡ true = ap (is_at address) changed ∙ (ap (λ n. n == address) (same a) ∙ here) in
-      find-here address now (with_station address change stations) at
-      ∙ ap Some (changed ∙ ap change (same_Some a s (sym (find-here address a stations here) ∙ found)))
-  | inr away ↦
-      let now : Present = if is_at address a then change a else a in
-      let changed : now ≡ a = ap (λ (b : Bool). if b then change a else a) away in
-      let at : is_at address now ≡ false = ap (is_at address) changed ∙ away in
-      find-later address now (with_station address change stations) at
-      ∙ find-changed address change same stations s (sym (find-later address a stations away) ∙ found)
-]
-
 same-address : (choice : Choice) (begun : Begun) (outcome : Outcome) (s : Present) → address_of_station (after_attempt begun outcome choice s) ≡ address_of_station s
 same-address choice begun outcome s = refl
 
--- the frames behind all stations, and the planned start of the holder's next frame
+-- the ticks of the frames before grow, and the planned start of the holder's next frame stays within its bound
 record Grows (address : ℕ) (origin : Origin) (bound frames : ℕ) (stations : List Present) : Type 0 where
-  grows : frames ≤ frames_begun stations
-  planned : planned_for origin (find (is_at address) stations) ≤ bound + (frames_begun stations - frames)
+  grows : frames ≤ frame_ticks_before stations
+  planned : planned_for origin (find (is_at address) stations) ≤ bound + (frame_ticks_before stations - frames)
 
 grows-by : (address : ℕ) (origin : Origin) (bound : ℕ) (choice : Choice) (begun : Begun) (outcome : Outcome) (stations : List Present) (t : Present) (entry : Entry)
-    (later : List Entry) → Each Climbs stations → find (is_at address) stations ≡ Some t → t.left ≡ entry ∷ later →
+    (later : List Entry) → Each IsRising stations → find (is_at address) stations ≡ Some t → t.left ≡ entry ∷ later →
     origin.tick + (entry.offset - origin.offset) ≤ bound →
-    Grows address origin bound (frames_begun stations) (with_station address (after_attempt begun outcome choice) stations)
-grows-by address origin bound Done begun outcome stations t entry later climbs found left planned =
+    Grows address origin bound (frame_ticks_before stations) (with_station address (after_attempt begun outcome choice) stations)
+grows-by address origin bound Done begun outcome stations t entry later rising found left planned =
     let now : List Present = with_station address (after_attempt begun outcome Done) stations in
-    let grown : frames_begun stations + ticks_before t.plan later ≤ frames_begun now + entry.offset =
-    found-grows address begun outcome stations t entry later climbs found left in
-    let all : frames_begun stations ≤ frames_begun now = all-grow address begun outcome stations climbs in
+    let grown : frame_ticks_before stations + ticks_before t.plan later ≤ frame_ticks_before now + entry.offset =
+    found-grows address begun outcome stations t entry later rising found left in
+    let all : frame_ticks_before stations ≤ frame_ticks_before now = all-grow address begun outcome stations rising in
     let there : find (is_at address) now ≡ Some (after_attempt begun outcome Done t) =
     find-changed address (after_attempt begun outcome Done) (same-address Done begun outcome) stations t found in
     let rest : begun-by (after_attempt begun outcome Done t) ≡ ticks_before t.plan later =
-    ap (λ l. ticks_before t.plan (drop 1 l)) left ∙ same-drop later in
+    ap (λ l. ticks_before t.plan (drop 1 l)) left ∙ ap (ticks_before t.plan) (drop-none later) in
     let low : ticks_before t.plan later + 0 ≤ ticks_before t.plan later = omega arith in
     record {
       grows = all;
-      planned = subst (λ o. planned_for origin o ≤ bound + (frames_begun now - frames_begun stations)) (sym there)
+      planned = subst (λ o. planned_for origin o ≤ bound + (frame_ticks_before now - frame_ticks_before stations)) (sym there)
           (omega (arith, grown, all, rest, planned));
     }
-  where
-    same-drop : (xs : List Entry) → ticks_before t.plan (drop 0 xs) ≡ ticks_before t.plan xs
-    same-drop [] = refl
-    same-drop (x ∷ xs) = refl
-grows-by address origin bound (Again state) begun outcome stations t entry later climbs found left planned =
+grows-by address origin bound (Again state) begun outcome stations t entry later rising found left planned =
     let now : List Present = with_station address (after_attempt begun outcome (Again state)) stations in
-    let same : frames_begun now ≡ frames_begun stations = same-changed address (after_attempt begun outcome (Again state)) (λ s. refl) stations in
+    let same : frame_ticks_before now ≡ frame_ticks_before stations = same-changed address (after_attempt begun outcome (Again state)) (λ s. refl) stations in
     let there : find (is_at address) now ≡ Some (after_attempt begun outcome (Again state) t) =
     find-changed address (after_attempt begun outcome (Again state)) (same-address (Again state) begun outcome) stations t found in
     let rest : begun-by t ≡ entry.offset = ap (ticks_before t.plan) left in
     record {
       grows = omega (arith, same);
-      planned = subst (λ o. planned_for origin o ≤ bound + (frames_begun now - frames_begun stations)) (sym there) (omega (arith, same, rest, planned));
+      planned = subst (λ o. planned_for origin o ≤ bound + (frame_ticks_before now - frame_ticks_before stations)) (sym there) (omega (arith, same, rest, planned));
     }
 
 -- ---- an attempt
@@ -285,22 +258,22 @@ module _ (k : ℕ) (low : k < 24) (plan : PlanData) (accepted : IsAccepted plan)
   kept : AllZip IsKept run.stations this.stations
   kept = message-kept k loads plan.faults number next.entry.item run.runs_on begun.state.channel begun.start run.stations
 
-  climbs-kept : (before later : List Present) → AllZip IsKept before later → Each Climbs before → Each Climbs later
-  climbs-kept [] [] zip all = tt
-  climbs-kept [] (t ∷ later) zip all = absurd zip
-  climbs-kept (s ∷ before) [] zip all = absurd zip
-  climbs-kept (s ∷ before) (t ∷ later) zip all = (
+  rising-kept : (before later : List Present) → AllZip IsKept before later → Each IsRising before → Each IsRising later
+  rising-kept [] [] zip all = tt
+  rising-kept [] (t ∷ later) zip all = absurd zip
+  rising-kept (s ∷ before) [] zip all = absurd zip
+  rising-kept (s ∷ before) (t ∷ later) zip all = (
     subst (λ p. Rises p t.left) (sym zip.0.plan_is)
         (subst (Rises s.plan) (sym zip.0.left_is) all.0),
-    climbs-kept before later zip.1 all.1,
+    rising-kept before later zip.1 all.1,
   )
 
-  grown : Grows run.holder run.origin bound (frames_begun run.stations) left-stations
+  grown : Grows run.holder run.origin bound (frame_ticks_before run.stations) left-stations
   grown =
       let there = found-beside IsKept (λ s t h. ap (λ (p : StationData). p.terminal.address) h.plan_is) run.holder run.stations this.stations next.station kept here.found in
       subst (λ n. Grows run.holder run.origin bound n left-stations) (same-kept run.stations this.stations kept)
       (grows-by run.holder run.origin bound choice begun this.ending.ended.outcome this.stations there.0 next.entry here.later
-      (climbs-kept run.stations this.stations kept (all-climb plan run.holder plan.stations run.stations is.stations)) there.1 (there.2.left_is ∙ here.left) planned-here)
+      (rising-kept run.stations this.stations kept (all-rising plan run.holder plan.stations run.stations is.stations)) there.1 (there.2.left_is ∙ here.left) planned-here)
 
   -- the run with the attempt, before control passes
   abbrev rest : Run
@@ -339,6 +312,7 @@ module _ (k : ℕ) (low : k < 24) (plan : PlanData) (accepted : IsAccepted plan)
       let tick : p.tick ≤ ticks_bound rest = omega (arith, taken.tick, first.ends, ordered, grown.grows) in
       taken-bounds rest p.address p.tick rest-bounds tick (of.taken p.tick refl)
 
+  -- an attempt at the next item keeps the bounds
   pub message-bounds : KeepsBounds (with_message run begun choice this)
   message-bounds =
       by-passing this.ending.passes refl (message-run k plan loads run begun choice accepted is)

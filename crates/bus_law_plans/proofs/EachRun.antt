@@ -17,29 +17,32 @@ use Rattle.bus_model.specs.Message.{Present, Message}
 use Rattle.bus_model.specs.Run.{Run, Next, is_at, next_item, pass_control, with_message, next_attempt, attempt, attempts_after, most_attempts, first_run, run_of}
 use Rattle.bus_model.specs.Strikes.{ShownBurst, burst_ticks}
 use Rattle.bus_law_plans.specs.Amounts.{attempts_of, attempts_in, station_attempts, station_ticks}
-use Rattle.bus_law_plans.specs.Bounds.{IsShort, frames_begun, planned_for, KeepsBounds, IsWithinBounds}
+use Rattle.bus_law_plans.specs.Bounds.{IsShort, frame_ticks_before, planned_for, KeepsBounds, IsWithinBounds}
 use Rattle.bus_law_plans.specs.Entries.{IsRunOf}
 use Rattle.bus_law_plans.specs.Memories.{AreBlocks, KeepsWordRanges}
 use Rattle.bus_law_plans.specs.Sent.{begun_of, message_of}
-use Rattle.bus_law_plans.proofs.Bounded.{each-reverse, attempt-bounds}
+use Rattle.bus_law_plans.proofs.Bounded.{attempt-bounds}
 use Rattle.bus_law_plans.proofs.FirstRun.{first-run}
 use Rattle.bus_law_plans.proofs.Growing.{found-part, begun-low}
-use Rattle.bus_law_plans.proofs.Lists.{each-weaker}
+use Rattle.bus_law_plans.proofs.Lists.{each-weaker, each-reverse}
 use Rattle.bus_law_plans.proofs.NextRun.{attempt-run}
 use Rattle.bus_law_plans.proofs.Ranged.{first-keeps, attempt-ranges}
 
 -- ---- every run
 
+-- what an attempt keeps holds of each run
 pub each-run : (P : Run → Type 0) (k : ℕ) (loads : List TimedLoad) (faults : List Fault) (run : Run) → P run →
     ((r : Run) → P r → P (attempt k loads faults r)) → (n : ℕ) → P (attempts_after k loads faults n run)
 unfolding attempts_after
 each-run P k loads faults run first next zero = first
 each-run P k loads faults run first next (suc n) = next (attempts_after k loads faults n run) (each-run P k loads faults run first next n)
 
+-- each run is one of its plan
 pub each-of-plan : (k : ℕ) (plan : PlanData) (loads : List TimedLoad) (n : ℕ) → IsAccepted plan → IsRunOf plan (attempts_after k loads plan.faults n (first_run plan))
 each-of-plan k plan loads n accepted =
     each-run (IsRunOf plan) k loads plan.faults (first_run plan) (first-run plan accepted) (λ run is. attempt-run k plan loads run accepted is) n
 
+-- each run keeps the ranges of words
 pub each-ranged : (k : ℕ) (plan : PlanData) (loads : List TimedLoad) (n : ℕ) → IsAccepted plan → AreBlocks loads →
     KeepsWordRanges (attempts_after k loads plan.faults n (first_run plan))
 each-ranged k plan loads n accepted blocks =
@@ -49,10 +52,11 @@ each-ranged k plan loads n accepted blocks =
 -- ---- the bounds
 
 first-planned : (stations : List Present) (address : ℕ) (o : Option Present) → find (is_at address) stations ≡ o →
-    planned_for record { tick = 8; offset = 0 } o ≤ 8 + frames_begun stations
+    planned_for record { tick = 8; offset = 0 } o ≤ 8 + frame_ticks_before stations
 first-planned stations address None found = omega arith
 first-planned stations address (Some s) found = omega (arith, found-part address stations s found)
 
+-- before the first attempt the bounds are kept
 pub first-bounds : (plan : PlanData) → KeepsBounds (first_run plan)
 first-bounds plan = record {
   bursts = omega arith;
@@ -64,6 +68,7 @@ first-bounds plan = record {
   old = tt;
 }
 
+-- each run keeps its bounds
 pub each-bounds : (k : ℕ) (plan : PlanData) (loads : List TimedLoad) (n : ℕ) → k < 24 → IsAccepted plan →
     KeepsBounds (attempts_after k loads plan.faults n (first_run plan))
 each-bounds k plan loads n low accepted =
@@ -115,12 +120,14 @@ within-bounds plan most run is keeps few =
       short = each-weaker IsShort (λ burst. burst_ticks burst ≤ 1600) (λ burst h. h.ticks) run.bursts keeps.short;
     }
 
+-- so many attempts are within their bounds
 pub each-within : (k : ℕ) (plan : PlanData) (loads : List TimedLoad) (n : ℕ) → k < 24 → IsAccepted plan →
     IsWithinBounds plan n (attempts_after k loads plan.faults n (first_run plan))
 each-within k plan loads n low accepted =
     within-bounds plan n (attempts_after k loads plan.faults n (first_run plan)) (each-of-plan k plan loads n accepted) (each-bounds k plan loads n low accepted)
     (omega (arith, attempts-few k loads plan.faults n (first_run plan)))
 
+-- the whole run is within the bounds of its plan
 pub run-within : (k : ℕ) (plan : PlanData) (loads : List TimedLoad) → k < 24 → IsAccepted plan → IsWithinBounds plan (most_attempts plan) (run_of k loads plan)
 unfolding run_of
 run-within k plan loads low accepted = each-within k plan loads (most_attempts plan) low accepted

@@ -1,5 +1,5 @@
 -- The words of commands and answers are words of sixteen bits.
-use Rattle.std.proofs.Common.{◌≡◌, ◌⊎◌, inl, inr, ℕ, zero, suc, ◌%◌, ◌<◌, ◌≤◌, Bool, true, false, List, [], ◌∷◌, ◌++◌, length, map, replicate, get_or, refl, sym, ap, subst, arith}
+use Rattle.std.proofs.Common.{◌≡◌, ◌⊎◌, inl, inr, ℕ, zero, suc, ◌%◌, ◌<◌, ◌≤◌, Bool, true, false, List, [], ◌∷◌, ◌++◌, length, map, replicate, get_or, sym, subst, arith}
 use Rattle.std.specs.Prelude.{◌||◌, ◌==◌, not, option_to_list}
 use Rattle.std.specs.List.{AllByRecursion as Each}
 use Rattle.std.proofs.lemmas.List.Elements.{recursion_from_All}
@@ -20,9 +20,11 @@ use Rattle.bus_law_plans.specs.Memories.{IsBlock, HasMemoryRanges}
 use Rattle.bus_law_plans.proofs.Answered.{IsData, status_alone, last_command, whole_answer, IsAnswer, data-few}
 use Rattle.bus_law_plans.proofs.Lists.{either, each-append, each-take, each-replicate, each-map}
 use Rattle.bus_law_plans.proofs.Kept.{IsWord, FitsWord, no-words}
+use Rattle.bus_law_plans.proofs.Sized.{data-long}
 
 -- ---- a command
 
+-- the fields of a command word make sixteen bits
 pub bits-fit : (address sub field : ℕ) (transmit : Bool) → address ≤ 31 → sub ≤ 31 → field ≤ 31 → command_bits address transmit sub field < 65536
 bits-fit address sub field true small low few = omega (arith, small, low, few)
 bits-fit address sub field false small low few = omega (arith, small, low, few)
@@ -30,10 +32,12 @@ bits-fit address sub field false small low few = omega (arith, small, low, few)
 data-fit : (words : List ℕ) → Each IsWord words → Each FitsWord (map data_word words)
 data-fit words all = each-map FitsWord data_word words all
 
-mode-sub : (sub : ℕ) → (sub ≡ 0) ⊎ (sub ≡ 31) → sub ≤ 31
+-- the subaddress of a mode command is one of five bits
+pub mode-sub : (sub : ℕ) → (sub ≡ 0) ⊎ (sub ≡ 31) → sub ≤ 31
 mode-sub sub (inl none) = omega (arith, none)
 mode-sub sub (inr all) = omega (arith, all)
 
+-- the words of a command within its ranges are of sixteen bits
 pub command-fits : (kind : Kind) → HasKindRanges kind → AreWords (words_sent kind) → Each FitsWord (command_words kind)
 command-fits (Receive to sub words) ranges fit = (
   bits-fit to sub (length words % 32) false ranges.address (omega (arith, ranges.subaddress)) (omega arith),
@@ -52,6 +56,7 @@ command-fits (Mode to mode_sub transmit code word) ranges fit = (
 
 -- ---- an answer
 
+-- a status word is of sixteen bits
 pub status-fits : (address : ℕ) (flags : Flags) → address ≤ 31 → status_bits address flags < 65536
 status-fits address flags small =
     omega (
@@ -101,10 +106,7 @@ pub record FitsAnswer (words : List Word) : Type 0 where
   pub some : 0 < length words
   pub few : length words ≤ 33
 
-map-long : (words : List ℕ) → length (map data_word words) ≡ length words
-map-long [] = refl
-map-long (w ∷ words) = ap suc (map-long words)
-
+-- the words of an answer are of sixteen bits
 pub spoken-fits : (terminal : TerminalData) (memory : Memory) (command : ℕ) (may acceptance : Bool) (words : List Word) → terminal.vector < 65536 →
     terminal.bit < 65536 → terminal.address ≤ 31 → HasMemoryRanges memory → IsAnswer terminal memory command may words acceptance → FitsAnswer words
 spoken-fits terminal memory command may acceptance words vector bits small is answer =
@@ -112,5 +114,5 @@ spoken-fits terminal memory command may acceptance words vector bits small is an
     subst FitsAnswer (sym answer.words_are) record {
       fit = (status-fits terminal.address _ small, data-fit answer.words_sent (sent-fits terminal memory command vector bits is answer.words_sent answer.sent));
       some = omega arith;
-      few = omega (arith, few, map-long answer.words_sent);
+      few = omega (arith, few, data-long answer.words_sent);
     }

@@ -24,10 +24,13 @@ use Rattle.bus_model.specs.Orders.{Duty, free, promises, Taken, Obeyed, answer, 
 use Rattle.bus_law_plans.specs.Memories.{IsBlock, AreBlocks, HasRegisterRanges, HasMemoryRanges}
 use Rattle.bus_law_plans.proofs.Lists.{either}
 use Rattle.bus_law_plans.proofs.Struck.{Slot}
+use Rattle.bus_law_plans.proofs.Answered.{count-few}
 
+-- a word of sixteen bits
 abbrev pub IsWord : ℕ → Type 0
 IsWord w = w < 65536
 
+-- a word on the bus of sixteen bits
 abbrev pub FitsWord : Word → Type 0
 FitsWord word = word.bits < 65536
 
@@ -37,11 +40,13 @@ FitSlots slots = Each (Slot FitsWord) slots
 
 -- ---- blocks
 
+-- one element is written over
 pub each-set : {X : Type 0} (P : X → Type 0) (xs : List X) (i : ℕ) (v : X) → P v → Each P xs → Each P (set xs i v)
 each-set P [] i v h all = tt
 each-set P (x ∷ xs) zero v h all = (h, all.1)
 each-set P (x ∷ xs) (suc i) v h all = (all.0, each-set P xs i v h all.1)
 
+-- no words are a block too
 pub no-words : IsBlock []
 no-words = record { few = omega arith; spelled = All-from_recursion IsWord [] tt }
 
@@ -63,6 +68,7 @@ taking-keeps m (Some t) block is =
 
 -- ---- words in slots
 
+-- a command in a slot is of sixteen bits
 pub command-word : (slot : Option Word) (c : ℕ) → Slot FitsWord slot → command_in slot ≡ Some c → c < 65536
 command-word None c fits is = absurd (none-some c is)
 command-word (Some word) c fits is = by-sync word.sync is
@@ -91,15 +97,13 @@ one-read n (Some w) None words h i is = absurd (none-some words is)
 one-read n (Some w) (Some ws) words h i is =
     subst (AreRead (suc n)) (same_Some (w ∷ ws) words is) record { many = ap suc (i ws refl).many; fit = (h w refl, (i ws refl).fit) }
 
+-- data words that are read are of sixteen bits, and as many as are asked for
 pub data-read : (count : ℕ) (slots : List (Option Word)) (words : List ℕ) → FitSlots slots → data_in count slots ≡ Some words → AreRead count words
 data-read zero [] words fits is = subst (AreRead 0) (same_Some [] words is) record { many = refl; fit = tt }
 data-read zero (slot ∷ slots) words fits is = absurd (none-some words is)
 data-read (suc n) [] words fits is = absurd (none-some words is)
 data-read (suc n) (slot ∷ slots) words fits is =
     one-read n (datum_in slot) (data_in n slots) words (λ w. datum-word slot w fits.0) (λ ws. data-read n slots ws fits.1) is
-
-count-few : (command : ℕ) → word_count command ≤ 32
-count-few command = either (λ (n : ℕ). n ≤ 32) _ 32 (field_of command) (omega arith) (omega arith)
 
 mode-few : (carries : Carries) → mode_words_after carries ≤ 32
 mode-few Nothing = omega arith

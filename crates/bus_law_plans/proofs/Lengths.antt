@@ -1,7 +1,6 @@
 -- No part of a message is both cut and lengthened: so its words as they are shown are the first of those that are sent, and none is added, or all of them, and then zeros.
 use Rattle.std.proofs.Common.{◌≡◌, ◌⊎◌, inl, inr, ℕ, zero, suc, ◌+◌, ◌-◌, Bool, true, false, List, [], ◌∷◌, ◌++◌, length, take, map, replicate, Option, Some, None, refl, sym, ap, ◌∙◌, subst, arith}
 use Rattle.std.proofs.lemmas.Bool.{true≢false}
-use Rattle.std.proofs.lemmas.Bool.Decides.{nat_tests}
 use Rattle.std.proofs.lemmas.Option.{none-some, same_Some}
 use Rattle.std.specs.Prelude.{if◌then◌else◌, ◌&&◌, ◌==◌, AllPairs}
 use Rattle.std.specs.List.{AllByRecursion as Each, list_any, cons_option}
@@ -17,7 +16,7 @@ use Rattle.bus_formats.specs.declared.fault.Fault.{Fault}
 use Rattle.bus_formats.specs.declared.fault.Hit.{Hit}
 use Rattle.bus_formats.specs.declared.fault.Hit.TheVariants.{Flip, Cut, Extra, Fade}
 use Rattle.bus_model.specs.Strikes.{hit_on, hits_on, spoils, spoiled, cut_by, added_by, own_struck, struck}
-use Rattle.bus_law_plans.proofs.Lists.{either}
+use Rattle.bus_law_plans.proofs.Lists.{either, and-both, same-number}
 
 -- ---- the hits of a part
 
@@ -41,6 +40,7 @@ abbrev pub Distinct : List Fault → Type 0
 Distinct [] = Unit {0}
 Distinct (f ∷ faults) = Each (λ g. StrikesTheSame f g → ⊥) faults × Distinct faults
 
+-- by the rule of the plan
 pub distinct-from : (faults : List Fault) → AllPairs (λ a b. StrikesTheSame a b → ⊥) faults → Distinct faults
 distinct-from [] h = tt
 distinct-from (f ∷ faults) h = (
@@ -63,14 +63,6 @@ record IsHitBy (n : ℕ) (part : Part) (f : Fault) (hit : Hit) : Type 0 where
   attempt_is : f.attempt ≡ n
   part_is : f.part ≡ part
   hit_is : f.hit ≡ hit
-
-and-both : (a b : Bool) → (a && b) ≡ true → (a ≡ true) × (b ≡ true)
-and-both true true h = (refl, refl)
-and-both true false h = absurd (true≢false (sym h))
-and-both false b h = absurd (true≢false (sym h))
-
-same-number : (m n : ℕ) → (m == n) ≡ true → m ≡ n
-same-number m n is = grind (arith, nat_tests, is)
 
 hit-by : (n : ℕ) (part : Part) (f : Fault) (hit : Hit) (b : Bool) → ((f.attempt == n) && same_part f.part part) ≡ b →
     (if b then Some f.hit else None) ≡ Some hit → IsHitBy n part f hit
@@ -156,7 +148,8 @@ cut-shown (Fade word set ∷ hits) words slots h = cut-shown hits words slots h
 cut-shown (Extra more ∷ hits) words slots h = cut-shown hits words slots h
 cut-shown (Cut after ∷ hits) words slots h = cut-shown hits words (take after slots) (take-shown after words slots h)
 
-zeros-shown : (zs : List (Option Word)) → Each IsZero zs → AreShown [] zs
+-- zeros are shown after all words
+pub zeros-shown : (zs : List (Option Word)) → Each IsZero zs → AreShown [] zs
 zeros-shown [] all = tt
 zeros-shown (z ∷ zs) all = all
 
@@ -202,6 +195,7 @@ long-by n slots words None rest h is = absurd (none-some words is)
 long-by n slots words (Some w) None h is = absurd (none-some words is)
 long-by n slots words (Some w) (Some ws) h is = ap suc (h ws refl)
 
+-- as many slots are read as are asked for
 pub read-long : (count : ℕ) (slots : List (Option Word)) (words : List ℕ) → data_in count slots ≡ Some words → length slots ≡ count
 read-long zero [] words is = refl
 read-long zero (slot ∷ slots) words is = absurd (none-some words is)

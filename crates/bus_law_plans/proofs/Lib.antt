@@ -28,3 +28,6 @@ pub mod Singles
 pub mod Relays
 pub mod Delivered
 pub mod AllDelivered
+pub mod Superseded
+pub mod NotAbandoned
+pub mod Places

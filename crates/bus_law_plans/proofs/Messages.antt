@@ -53,6 +53,7 @@ module _ (k : ℕ) (loads : List TimedLoad) (faults : List Fault) (n : ℕ) (ite
   abbrev pub second-after : ShownAnswer → Option ShownAnswer
   second-after answer = shown_answer (hits_on faults n Second) (answer_to answer.burst (map (after_answer k loads answer.burst) ordered))
 
+  -- the second answer that is shown, if a first is
   abbrev pub second-of : Option ShownAnswer → Option ShownAnswer
   second-of None = None
   second-of (Some answer) = second-after answer
@@ -97,6 +98,7 @@ module _ (k : ℕ) (loads : List TimedLoad) (faults : List Fault) (n : ℕ) (ite
   counted-by None = refl
   counted-by (Some answer) = refl
 
+  -- no fault deceives the count of its first answer
   pub counted-is : (message k loads faults n item on channel start stations).counted ≡ is_counted item.kind replied
   unfolding message
   counted-is = counted-by replied
@@ -125,9 +127,11 @@ module _ (k : ℕ) (loads : List TimedLoad) (burst : ShownBurst) where
   order-kept s None = same s
   order-kept s (Some order) = record { plan_is = refl; left_is = refl; live_is = refl; serves_is = refl }
 
+  -- a command keeps all but the memory
   pub command-kept : (s : Present) → IsKept s (after_command k loads burst s).station
   command-kept s = either (λ (a : After). IsKept s a.station) s.serves _ _ (order-kept s _) (same s)
 
+  -- an answer too
   pub answer-kept : (s : Present) (duty : Duty) → IsKept s (after_answer_of k loads burst s duty).station
   answer-kept s free = same s
   answer-kept s (owes words acceptance) = same s
@@ -147,6 +151,7 @@ each-kept k loads command f h (s ∷ stations) = (
   each-kept k loads command f h stations,
 )
 
+-- and a whole message
 pub message-kept : (k : ℕ) (loads : List TimedLoad) (faults : List Fault) (n : ℕ) (item : ItemData) (on : Option ShownAnswer) (channel : Channel)
     (start : ℕ) (stations : List Present) → AllZip IsKept stations (message k loads faults n item on channel start stations).stations
 message-kept k loads faults n item on channel start stations =

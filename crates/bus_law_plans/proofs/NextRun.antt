@@ -1,7 +1,6 @@
 -- An attempt keeps what holds of the stations of a run.
-use Rattle.std.proofs.Common.{◌≡◌, inl, inr, ℕ, zero, suc, Bool, true, false, List, [], ◌∷◌, map, drop, Option, Some, None, refl, sym, ap, ◌∙◌, subst, arith}
+use Rattle.std.proofs.Common.{◌≡◌, inl, inr, ℕ, zero, suc, Bool, true, false, List, [], ◌∷◌, map, drop, Option, Some, None, refl, sym, ap, ◌∙◌, subst}
 use Rattle.std.proofs.lemmas.Bool.{cases_Bool, true≢false}
-use Rattle.std.proofs.lemmas.Bool.Decides.{nat_tests}
 use Rattle.std.proofs.lemmas.Option.{none-some}
 use Rattle.std.specs.Prelude.{not, find, length, ◌==◌, Contains, IsSome}
 use Rattle.std.specs.List.{AllByRecursion as Each, AllZip}
@@ -21,7 +20,7 @@ use Rattle.bus_model.specs.Run.{Run, Next, is_at, with_station, after_attempt, n
 use Rattle.bus_model.specs.Starts.{Entry, agenda, has_items, taking, opening_after}
 use Rattle.bus_law_plans.specs.Entries.{items_of, IsEntryOf, IsStationOf, AreStationsOf, IsRunOf}
 use Rattle.bus_law_plans.specs.Sent.{begun_of, message_of}
-use Rattle.bus_law_plans.proofs.Lists.{zip-weaker, zip-after, zip-second, either-by}
+use Rattle.bus_law_plans.proofs.Lists.{zip-weaker, zip-after, zip-second, either-by, same-number, drop-none}
 use Rattle.bus_law_plans.proofs.Messages.{IsKept, message-kept}
 use Rattle.bus_law_plans.proofs.Stations.{Apart, apart-from, found-each, found-beside, find-later, changed-zip, contains-here, contains-later}
 use Rattle.bus_law_plans.proofs.Taking.{taken-by}
@@ -36,11 +35,7 @@ drop-more (suc n) (x ∷ xs) = drop-more n xs
 
 each-rest : (P : Entry → Type 0) (xs : List Entry) → Each P xs → Each P (drop 1 xs)
 each-rest P [] all = tt
-each-rest P (x ∷ xs) all = drop-none P xs all.1
-  where
-    drop-none : (Q : Entry → Type 0) (ys : List Entry) → Each Q ys → Each Q (drop 0 ys)
-    drop-none Q [] each = tt
-    drop-none Q (y ∷ ys) each = each
+each-rest P (x ∷ xs) all = subst (Each P) (sym (drop-none xs)) all.1
 
 superseding-rest : (xs : List Entry) → HasSuperseding (items_of xs) → HasSuperseding (items_of (drop 1 xs))
 superseding-rest [] all = tt
@@ -107,6 +102,7 @@ module _ (plan : PlanData) where
 
   -- ---- addresses
 
+  -- the stations of a run have the addresses of the plan
   pub stations-addresses : (holder : ℕ) (own : List StationData) (stations : List Present) → AreStationsOf plan holder own stations →
       map address_of_station stations ≡ map (λ (o : StationData). o.terminal.address) own
   stations-addresses holder [] [] all = refl
@@ -115,9 +111,6 @@ module _ (plan : PlanData) where
   stations-addresses holder (o ∷ own) (s ∷ stations) all =
       ap (λ (p : StationData). p.terminal.address ∷ map address_of_station stations) all.0.plan_is
       ∙ ap (λ l. o.terminal.address ∷ l) (stations-addresses holder own stations all.1)
-
-same-number : (m n : ℕ) → (m == n) ≡ true → m ≡ n
-same-number m n is = grind (arith, nat_tests, is)
 
 contained : (address : ℕ) (stations : List Present) (s : Present) → find (is_at address) stations ≡ Some s → Contains (map address_of_station stations) address
 contained address [] s found = absurd (none-some s found)
@@ -244,6 +237,7 @@ module _ (k : ℕ) (plan : PlanData) (loads : List TimedLoad) (run : Run) (begun
             (taker-next run.holder p.address run.stations (given-stations p.address) by.may.station (given-stays p.address) by.may.found other by.may.left);
       }
 
+  -- an attempt at the next item keeps the run one of its plan
   pub message-run : IsAccepted plan → IsRunOf plan run → IsRunOf plan (with_message run begun choice this)
   message-run accepted is = by-passing accepted is this.ending.passes refl _ refl refl refl
 

@@ -13,36 +13,40 @@ use Rattle.bus_formats.specs.Readings.{command_in, data_in}
 use Rattle.bus_model.specs.Commands.{relay_from, carries, transmitter_in, relay_in, tail_by, tail_of, words_after}
 use Rattle.bus_model.specs.Orders.{is_for, command_for, Order, order_with, last_order}
 use Rattle.bus_law_plans.proofs.Lengths.{AreShown, IsZero}
+use Rattle.bus_law_plans.proofs.Lists.{skips}
 
 -- ---- the fields of a command word
 
+-- the address of a command word
 pub address-is : (address sub field : ℕ) (transmit : Bool) → sub ≤ 31 → field ≤ 31 → address_of (command_bits address transmit sub field) ≡ address
 address-is address sub field true low few = omega (arith, low, few)
 address-is address sub field false low few = omega (arith, low, few)
 
+-- its subaddress
 pub sub-is : (address sub field : ℕ) (transmit : Bool) → sub ≤ 31 → field ≤ 31 → sub_of (command_bits address transmit sub field) ≡ sub
 sub-is address sub field true low few = omega (arith, low, few)
 sub-is address sub field false low few = omega (arith, low, few)
 
+-- its last field
 pub field-is : (address sub field : ℕ) (transmit : Bool) → field ≤ 31 → field_of (command_bits address transmit sub field) ≡ field
 field-is address sub field true few = omega (arith, few)
 field-is address sub field false few = omega (arith, few)
 
+-- its transmit bit
 pub transmit-is : (address sub field : ℕ) (transmit : Bool) → sub ≤ 31 → field ≤ 31 → is_transmit (command_bits address transmit sub field) ≡ transmit
 transmit-is address sub field true low few =
     let one : (address * 2048 + 1024 + sub * 32 + field) / 1024 % 2 ≡ 1 = omega (arith, low, few) in ap (λ n. n == 1) one
 transmit-is address sub field false low few =
     let none : (address * 2048 + 0 + sub * 32 + field) / 1024 % 2 ≡ 0 = omega (arith, low, few) in ap (λ n. n == 1) none
 
+-- a subaddress from 1 to 30 is that of no mode command
 pub plain-mode : (bits sub : ℕ) → sub_of bits ≡ sub → 1 ≤ sub → sub ≤ 30 → is_mode bits ≡ false
 plain-mode bits sub is some low = grind (arith, nat_tests, is, some, low)
 
+-- one of 0 or 31 is that of a mode command
 pub mode-is : (bits sub : ℕ) → sub_of bits ≡ sub → (sub ≡ 0) ⊎ (sub ≡ 31) → is_mode bits ≡ true
 mode-is bits sub is (inl none) = grind (arith, nat_tests, is, none)
 mode-is bits sub is (inr all) = grind (arith, nat_tests, is, all)
-
-skips : {X : Type 0} (b : Bool) (x y : X) → b ≡ false → (if b then x else y) ≡ y
-skips b x y off = ap (λ (t : Bool). if t then x else y) off
 
 full-count : (n : ℕ) → 1 ≤ n → n ≤ 32 → (if n % 32 == 0 then 32 else n % 32) ≡ n
 full-count n some few = elim (cases_eq n 32) [
@@ -51,9 +55,11 @@ full-count n some few = elim (cases_eq n 32) [
       skips (n % 32 == 0) 32 (n % 32) test ∙ omega (arith, some, few, apart))
 ]
 
+-- the number of data words that it names
 pub count-is : (bits n : ℕ) → field_of bits ≡ n % 32 → 1 ≤ n → n ≤ 32 → word_count bits ≡ n
 count-is bits n field some few = ap (λ (m : ℕ). if m == 0 then 32 else m) field ∙ full-count n some few
 
+-- as many follow a receive command
 pub after-receive : (bits n : ℕ) → is_mode bits ≡ false → is_transmit bits ≡ false → word_count bits ≡ n → words_after bits ≡ n
 after-receive bits n plain down count = skips (is_mode bits) _ (if is_transmit bits then 0 else word_count bits) plain ∙ (skips (is_transmit bits) 0 (word_count bits) down ∙ count)
 
@@ -109,6 +115,7 @@ first-order own bits words slot tail order h (inl none) is = absurd (none-some o
 first-order own bits words slot tail order h (inr same) is =
     by-for own bits words tail order h (is_for own bits) refl (sym (ap (λ s. order_with (command_for own s) tail) same) ∙ is)
 
+-- whoever finds a command in the words of one finds that one
 pub single-order : (own bits : ℕ) (words : List ℕ) (slots : List (Option Word)) → AreShown (command_word bits ∷ map data_word words) slots →
     (order : Order) → last_order own slots ≡ Some order → IsSingle own bits words order
 single-order own bits words [] h order is = absurd (none-some order is)
@@ -162,6 +169,7 @@ zeros-of : (zs : List (Option Word)) → AreShown [] zs → Each IsZero zs
 zeros-of [] h = tt
 zeros-of (z ∷ zs) h = h
 
+-- whoever finds a command in a relay's words finds one of the two
 pub pair-order : (own first second : ℕ) (slots : List (Option Word)) → AreShown (command_word first ∷ command_word second ∷ []) slots → (order : Order) →
     last_order own slots ≡ Some order → IsPair own first second order
 pair-order own first second [] h order is = absurd (none-some order is)

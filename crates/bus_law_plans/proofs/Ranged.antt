@@ -1,7 +1,7 @@
 -- In each run of an accepted plan what the terminals keep is within the ranges of words and blocks.
 use Rattle.std.proofs.Common.{◌≡◌, ℕ, suc, ◌+◌, ◌<◌, ◌≤◌, true, false, List, [], ◌∷◌, length, map, Option, Some, None, refl, sym, subst, arith}
 use Rattle.std.specs.List.{AllByRecursion as Each, AllZip}
-use Rattle.std.proofs.lemmas.List.Elements.{recursion_from_All}
+use Rattle.std.proofs.lemmas.List.Elements.{recursion_from_All, All-from_recursion}
 use Rattle.bus_base.specs.declared.samples.Channel.{Channel}
 use Rattle.bus_base.specs.declared.samples.Part.TheVariants.{Command, First}
 use Rattle.bus_words.specs.declared.word.Word.{Word}
@@ -20,8 +20,8 @@ use Rattle.bus_model.specs.Orders.{Duty, free, owes, promises, Order, last_order
 use Rattle.bus_model.specs.Run.{Run, Next, is_at, with_station, after_attempt, next_item, pass_control, with_message, next_attempt, attempt, first_run, first_present}
 use Rattle.bus_model.specs.Strikes.{hits_on, ShownBurst, burst_end, Answer, ShownAnswer}
 use Rattle.bus_law_plans.specs.Entries.{IsRunOf}
-use Rattle.bus_law_plans.specs.Memories.{IsBlock, AreBlocks, HasMemoryRanges, HasWordRanges, KeepsWordRanges}
-use Rattle.bus_law_plans.specs.Sent.{begun_of, message_of}
+use Rattle.bus_law_plans.specs.Memories.{IsBlock, AreBlocks, HasMemoryRanges, HasWordRanges, KeepsWordRanges, HasAnswerRanges}
+use Rattle.bus_law_plans.specs.Sent.{begun_of, command_of, first_of, message_of}
 use Rattle.bus_law_plans.proofs.Answered.{IsAnswerOf, replied-by, shown-of}
 use Rattle.bus_law_plans.proofs.Fits.{command-fits, FitsAnswer, spoken-fits}
 use Rattle.bus_law_plans.proofs.Kept.{IsWord, FitsWord, FitSlots, each-set, no-words, loads-keep, command-word, obeyed-ranges, unkept-ranges, promise-ranges}
@@ -29,6 +29,7 @@ use Rattle.bus_law_plans.proofs.Lists.{either, each-weaker, each-map, each-repli
 use Rattle.bus_law_plans.proofs.Messages.{told, replied, stations-after}
 use Rattle.bus_law_plans.proofs.Nexts.{next-of}
 use Rattle.bus_law_plans.proofs.Promised.{Promise, obeyed-promises}
+use Rattle.bus_law_plans.proofs.Seconds.{IsSecondOf, seconded-by}
 use Rattle.bus_law_plans.proofs.Struck.{Slot, struck-each, Commands, order-found, tail-each}
 
 -- ---- one station
@@ -113,6 +114,19 @@ module _ (k : ℕ) (loads : List TimedLoad) (blocks : AreBlocks loads) (faults :
       subst FitSlots (sym shown.slots)
       (struck-each FitsWord (hits_on faults n First) answer.sent.words (omega arith) (reply-fits answer.sent shown.sent).fit)
 
+  -- and those of an answer to the first
+  pub second-fits : (first : ShownAnswer) → replied k loads faults n item on channel start stations ≡ Some first → (answer : Answer) →
+      answer_to first.burst (map (after_answer k loads first.burst) (map (after_command k loads shown-command) stations)) ≡ Some answer → FitsAnswer answer.words
+  second-fits first is =
+      seconded-by k loads first.burst (λ answer. FitsAnswer answer.words) (map (after_command k loads shown-command) stations)
+      (each-map (λ (after : After). (a : Answer) → IsSecondOf k loads first.burst after.station a → FitsAnswer a.words) (after_command k loads shown-command) stations
+      (each-weaker HasWordRanges (λ s. (a : Answer) → IsSecondOf k loads first.burst (after_command k loads shown-command s).station a → FitsAnswer a.words)
+      (λ s ranged a of.
+      let here : HasWordRanges (after_command k loads shown-command s).station = (command-ranges k loads blocks shown-command told-fits s ranged).station in
+      spoken-fits (after_command k loads shown-command s).station.plan.terminal (memory_at k loads first.burst (after_command k loads shown-command s).station)
+      of.command false a.acceptance a.words here.vector here.bit here.address
+      (memory-ranges k loads blocks first.burst (first-fits first is) (after_command k loads shown-command s).station here) of.is) stations all))
+
   after-each : (f : After → After) → ((a : After) → RangesAfter a → HasWordRanges (f a).station) → (ts : List Present) → Each HasWordRanges ts →
       Each (λ s. HasWordRanges (f (after_command k loads shown-command s)).station) ts
   after-each f h ts ranged =
@@ -122,6 +136,7 @@ module _ (k : ℕ) (loads : List TimedLoad) (blocks : AreBlocks loads) (faults :
   zip-last : (xs ys : List Present) → AllZip (λ x y. HasWordRanges y) xs ys → Each HasWordRanges ys
   zip-last xs ys zip = zip-second (λ x y. HasWordRanges y) HasWordRanges (λ x y h. h) xs ys zip
 
+  -- a message keeps the ranges of words
   pub message-ranges : Each HasWordRanges (message k loads faults n item on channel start stations).stations
   message-ranges =
       zip-last stations _
@@ -194,8 +209,33 @@ first-ranges plan s ranges =
       address = ranges.terminal.address;
     }
 
+-- before the first attempt they are kept
 pub first-keeps : (plan : PlanData) → IsAccepted plan → KeepsWordRanges (first_run plan)
 first-keeps plan accepted =
     each-map HasWordRanges (first_present plan) plan.stations
     (each-weaker HasStationRanges (λ s. HasWordRanges (first_present plan s)) (first-ranges plan) plan.stations
     (recursion_from_All HasStationRanges plan.stations accepted.ranges))
+
+-- ---- the answers
+
+fits-all : (words : List Word) → FitsAnswer words → HasAnswerRanges words
+fits-all words is = record { fit = All-from_recursion FitsWord words is.fit; some = is.some; few = is.few }
+
+-- the first answer has its ranges
+pub answer-ranged : (k : ℕ) (plan : PlanData) (loads : List TimedLoad) (run : Run) (next : Next) (answer : Answer) → AreBlocks loads → IsRunOf plan run →
+    KeepsWordRanges run → next_item run ≡ Some next → let command : ShownBurst = command_of k loads plan.faults run (begun_of run next) in
+    answer_to command (map (after_command k loads command) run.stations) ≡ Some answer → HasAnswerRanges answer.words
+answer-ranged k plan loads run next answer blocks is all given found =
+    let begun : Begun = begun_of run next in
+    fits-all answer.words (reply-fits k loads blocks plan.faults (suc (length run.attempts)) next.entry.item (next-of plan run next is given).entry.ranges
+    run.runs_on begun.state.channel begun.start run.stations all answer found)
+
+-- and so has the second
+pub second-ranged : (k : ℕ) (plan : PlanData) (loads : List TimedLoad) (run : Run) (next : Next) (first : ShownAnswer) (answer : Answer) → AreBlocks loads →
+    IsRunOf plan run → KeepsWordRanges run → next_item run ≡ Some next → first_of k loads plan.faults run (begun_of run next) ≡ Some first →
+    let command : ShownBurst = command_of k loads plan.faults run (begun_of run next) in
+    answer_to first.burst (map (after_answer k loads first.burst) (map (after_command k loads command) run.stations)) ≡ Some answer → HasAnswerRanges answer.words
+second-ranged k plan loads run next first answer blocks is all given shown found =
+    let begun : Begun = begun_of run next in
+    fits-all answer.words (second-fits k loads blocks plan.faults (suc (length run.attempts)) next.entry.item (next-of plan run next is given).entry.ranges
+    run.runs_on begun.state.channel begun.start run.stations all first shown answer found)

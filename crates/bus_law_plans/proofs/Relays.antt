@@ -5,7 +5,6 @@ use Rattle.std.proofs.lemmas.Bool.Decides.{nat_tests}
 use Rattle.std.proofs.lemmas.List.{length-take, length-replicate}
 use Rattle.std.proofs.lemmas.Option.{none-some}
 use Rattle.std.specs.Prelude.{if◌then◌else◌, ◌==◌, ◌&&◌, ◌||◌, not, find, nat_lt}
-use Rattle.std.specs.List.{AllByRecursion as Each}
 use Rattle.bus_words.specs.Fields.{command_bits, is_transmit, is_mode, sub_of, field_of, word_count}
 use Rattle.bus_words.specs.declared.word.Word.{Word}
 use Rattle.bus_formats.specs.Accepted.{HasReceiveRanges, HasTransmitRanges}
@@ -25,17 +24,16 @@ use Rattle.bus_model.specs.Run.{is_at}
 use Rattle.bus_model.specs.Strikes.{ShownBurst, Answer, ShownAnswer, added_by, own_struck, struck}
 use Rattle.bus_law_plans.proofs.Answered.{IsData, status_alone, last_command, whole_answer, IsAnswerOf}
 use Rattle.bus_law_plans.proofs.Blocks.{IsBlockOf, TakesCommand, PromisesBy, command-told, TakesPromise, answer-told, relayed-data}
-use Rattle.bus_law_plans.proofs.Lengths.{AreShown, Sole, struck-shown, read-long, read-same}
+use Rattle.bus_law_plans.proofs.Lengths.{AreShown, Sole, struck-shown, read-long, read-same, zeros-shown}
 use Rattle.bus_law_plans.proofs.Orders.{IsSecond, IsPair, is_second, is_first, pair-order, no-relay, carried, promised, second-carries, address-is, sub-is, field-is, transmit-is, plain-mode, count-is, after-receive}
 use Rattle.bus_law_plans.proofs.Promised.{Promise}
 use Rattle.bus_law_plans.proofs.Singles.{own-address}
 use Rattle.bus_law_plans.proofs.Struck.{own-few}
-
-skips : {X : Type 0} (b : Bool) (x y : X) → b ≡ false → (if b then x else y) ≡ y
-skips b x y off = ap (λ (t : Bool). if t then x else y) off
+use Rattle.bus_law_plans.proofs.Lists.{skips}
 
 -- ---- how many words are shown
 
+-- an extra adds no more words than it names
 pub struck-long : (hits : List Hit) (words : List Word) → length (struck hits words) ≤ length words + added_by hits
 struck-long hits words =
     let own : List (Option Word) = own_struck hits words in
@@ -48,21 +46,20 @@ struck-long hits words =
       length-replicate (added_by hits) (Some (data_word 0)),
     )
 
+-- a block that is filled up has as many words as are asked for
 pub filled-long : (count : ℕ) (words : List ℕ) → length (filled count words) ≡ count
 filled-long count words =
     omega (arith, length-take count (words ++ replicate count 0), length-append words (replicate count 0), length-replicate {A = ℕ} count 0)
-
-map-long : (words : List ℕ) → length (map data_word words) ≡ length words
-map-long [] = refl
-map-long (w ∷ words) = ap suc (map-long words)
 
 module _ (from from_sub to to_sub count : ℕ) (sends : HasTransmitRanges from from_sub count) (takes : HasReceiveRanges to to_sub count) where
   abbrev field : ℕ
   field = count % 32
 
+  -- the first command, to the receivers
   abbrev pub receiving : ℕ
   receiving = command_bits to false to_sub field
 
+  -- the second command, to the transmitter
   abbrev pub sending : ℕ
   sending = command_bits from true from_sub field
 
@@ -118,10 +115,6 @@ module _ (from from_sub to to_sub count : ℕ) (sends : HasTransmitRanges from f
     -- who promises, does so by the first command
     abbrev IsReceiving : Present → ℕ → ℕ → Type 0
     IsReceiving s command transmitter = (command ≡ receiving) × (is_for (address_of_station s) receiving ≡ true)
-
-    zeros-shown : (zs : List (Option Word)) → Each (λ slot. slot ≡ Some (data_word 0)) zs → AreShown [] zs
-    zeros-shown [] all = tt
-    zeros-shown (z ∷ zs) all = all
 
     pair-promises : (s : Present) (command transmitter : ℕ) (by : PromisesBy s burst command transmitter) → IsPair (address_of_station s) receiving sending by.0 →
         IsReceiving s command transmitter
@@ -193,6 +186,7 @@ module _ (from from_sub to to_sub count : ℕ) (sends : HasTransmitRanges from f
               (subst (λ c. IsData s.plan.terminal (memory_at k loads burst s) c of.is.words_sent) command of.is.sent);
         }
 
+    -- whoever answers the commands is the transmitter
     pub transmitters : (stations : List Present) (s : Present) → find (is_at (address_of_station s)) stations ≡ Some s → (a : Answer) →
         IsAnswerOf k loads burst s a → IsTransmitters stations a
     transmitters stations s found a of =

@@ -1,12 +1,12 @@
 -- What a message of a run shows, and when: at most three bursts, each of at most forty words, all within so many ticks of its start.
-use Rattle.std.proofs.Common.{◌≡◌, ℕ, suc, ◌+◌, ◌<◌, ◌≤◌, Bool, false, List, [], ◌∷◌, length, map, Option, Some, None, refl, sym, ap, subst, arith, length-append}
+use Rattle.std.proofs.Common.{◌≡◌, ℕ, ◌+◌, ◌<◌, ◌≤◌, Bool, false, List, [], ◌∷◌, length, map, Option, Some, None, refl, sym, ap, subst, arith, length-append}
 use Rattle.std.specs.Prelude.{IfSome, max, fold}
 use Rattle.std.specs.List.{AllByRecursion as Each}
 use Rattle.bus_base.specs.declared.samples.Channel.{Channel}
 use Rattle.bus_base.specs.declared.samples.Part.TheVariants.{Command, First, Second}
 use Rattle.bus_words.specs.declared.word.Word.{Word}
 use Rattle.bus_formats.specs.Accepted.{HasItemRanges}
-use Rattle.bus_formats.specs.Forms.{data_word, command_words}
+use Rattle.bus_formats.specs.Forms.{command_words}
 use Rattle.bus_formats.specs.Plans.{ItemData, TerminalData}
 use Rattle.bus_formats.specs.declared.fault.Fault.{Fault}
 use Rattle.bus_formats.specs.declared.fault.Hit.{Hit}
@@ -19,7 +19,7 @@ use Rattle.bus_law_plans.proofs.Answered.{IsAnswer, IsAnswerOf, replied-by, IsSh
 use Rattle.bus_law_plans.proofs.Lists.{each-append, each-weaker}
 use Rattle.bus_law_plans.proofs.Messages.{told, ordered, replied, second-after, second-of, ending-is, bursts-are, command-kept}
 use Rattle.bus_law_plans.proofs.Seconds.{IsSecondOf, seconded-by}
-use Rattle.bus_law_plans.proofs.Sized.{whole-short, whole-end, command-few, beside-end, beside-short}
+use Rattle.bus_law_plans.proofs.Sized.{whole-short, whole-end, command-few, beside-end, beside-short, data-long}
 use Rattle.bus_law_plans.proofs.Struck.{struck-few}
 use Rattle.bus_law_plans.proofs.Ticked.{EndsBy, IsTimely, ending-timely}
 
@@ -37,14 +37,10 @@ pub record EndsShort (last : ℕ) (burst : ShownBurst) : Type 0 where
   pub short : IsShort burst
   pub ends : burst_end burst ≤ last
 
-words-long : (words : List ℕ) → length (map data_word words) ≡ length words
-words-long [] = refl
-words-long (w ∷ words) = ap suc (words-long words)
-
 words-few : (terminal : TerminalData) (memory : Memory) (command : ℕ) (may acceptance : Bool) (words : List Word) →
     IsAnswer terminal memory command may words acceptance → length words ≤ 40
 words-few terminal memory command may acceptance words is =
-    omega (arith, ap length is.words_are, words-long is.words_sent, data-few terminal memory command is.words_sent is.sent)
+    omega (arith, ap length is.words_are, data-long is.words_sent, data-few terminal memory command is.words_sent is.sent)
 
 shown-short : (hits : List Hit) (answer : Option Answer) (shown : ShownAnswer) (end last : ℕ) → IsShownOf hits answer shown → IsSoon end shown.sent →
     end + 1620 ≤ last → EndsShort last shown.burst
@@ -204,5 +200,6 @@ fold-low : (high tick : ℕ) (bursts : List ShownBurst) → tick ≤ high → Ea
 fold-low high tick [] low all = low
 fold-low high tick (burst ∷ bursts) low all = fold-low high (max tick (burst_end burst)) bursts (omega (arith, low, all.0.ends)) all.1
 
+-- both channels are quiet after the last of these bursts
 pub quiet-low : (high : ℕ) (bursts : List ShownBurst) → Each (EndsShort high) bursts → quiet_after bursts ≤ high
 quiet-low high bursts all = fold-low high 0 bursts (omega arith) all

@@ -1,9 +1,8 @@
 -- The blocks of a message that is no relay: those of a receive command alone, and they are its own words.
 use Rattle.std.proofs.Common.{◌≡◌, ◌≢◌, ◌⊎◌, inl, inr, ℕ, ◌%◌, ◌≤◌, Bool, true, false, List, [], ◌∷◌, length, map, Option, Some, refl, sym, ap, ◌∙◌, subst, arith}
 use Rattle.std.proofs.lemmas.Bool.{true≢false}
-use Rattle.std.proofs.lemmas.Bool.Decides.{nat_tests}
 use Rattle.std.proofs.lemmas.Option.{none-some}
-use Rattle.std.specs.Prelude.{◌==◌, ◌&&◌, ◌||◌, not}
+use Rattle.std.specs.Prelude.{◌==◌, ◌||◌, not}
 use Rattle.bus_words.specs.Fields.{command_bits, address_of, is_broadcast, word_count}
 use Rattle.bus_words.specs.declared.word.Word.{Word}
 use Rattle.bus_formats.specs.Accepted.{HasReceiveRanges, HasTransmitRanges, HasModeRanges}
@@ -18,18 +17,12 @@ use Rattle.bus_law_plans.proofs.Blocks.{IsBlockOf, TakesCommand, PromisesBy, com
 use Rattle.bus_law_plans.proofs.Lengths.{AreShown, read-same}
 use Rattle.bus_law_plans.proofs.Orders.{IsSingle, single-order, no-relay, carried, promised, address-is, sub-is, field-is, transmit-is, mode-is, count-is, after-receive}
 use Rattle.bus_law_plans.proofs.Promised.{Promise}
-
-and-both : (a b : Bool) → (a && b) ≡ true → (a ≡ true) × (b ≡ true)
-and-both true true h = (refl, refl)
-and-both true false h = absurd (true≢false (sym h))
-and-both false b h = absurd (true≢false (sym h))
+use Rattle.bus_law_plans.proofs.Lists.{and-both, same-number}
+use Rattle.bus_law_plans.proofs.Fits.{mode-sub}
 
 or-either : (a b : Bool) → (a || b) ≡ true → (a ≡ true) ⊎ (b ≡ true)
 or-either true b h = inl refl
 or-either false b h = inr h
-
-same-number : (m n : ℕ) → (m == n) ≡ true → m ≡ n
-same-number m n is = grind (arith, nat_tests, is)
 
 -- a command to one terminal is for that one
 pub own-address : (own command to : ℕ) → is_for own command ≡ true → address_of command ≡ to → to ≢ 31 → own ≡ to
@@ -94,6 +87,7 @@ pub record IsReceived (to sub : ℕ) (words : List ℕ) (own : ℕ) (block : Tak
   pub broadcast_is : block.broadcast ≡ (to == 31)
   pub own_is : to ≢ 31 → own ≡ to
 
+-- the block of a receive message is its own words
 pub receive-block : (to sub : ℕ) (words : List ℕ) (own : ℕ) (block : Taken) → HasReceiveRanges to sub (length words) →
     IsSingleBlock own (command_bits to false sub (length words % 32)) words block → IsReceived to sub words own block
 receive-block to sub words own block ranges by =
@@ -116,13 +110,9 @@ pub transmit-block : (from sub count own : ℕ) (block : Taken) → HasTransmitR
 transmit-block from sub count own block ranges by =
     true≢false (sym (transmit-is from sub (count % 32) true (omega (arith, ranges.subaddress)) (omega arith)) ∙ by.is.down)
 
-mode-low : (sub : ℕ) → (sub ≡ 0) ⊎ (sub ≡ 31) → sub ≤ 31
-mode-low sub (inl none) = omega (arith, none)
-mode-low sub (inr all) = omega (arith, all)
-
 -- nor does a mode command
 pub mode-block : (to mode_sub code own : ℕ) (transmit : Bool) (words : List ℕ) (block : Taken) → HasModeRanges to mode_sub code →
     IsSingleBlock own (command_bits to transmit mode_sub code) words block → ⊥
 mode-block to mode_sub code own transmit words block ranges by =
     let bits : ℕ = command_bits to transmit mode_sub code in
-    true≢false (sym (mode-is bits mode_sub (sub-is to mode_sub code transmit (mode-low mode_sub ranges.subaddress) ranges.mode) ranges.subaddress) ∙ by.is.plain)
+    true≢false (sym (mode-is bits mode_sub (sub-is to mode_sub code transmit (mode-sub mode_sub ranges.subaddress) ranges.mode) ranges.subaddress) ∙ by.is.plain)

@@ -14,11 +14,13 @@ use Rattle.bus_law_plans.specs.Bounds.{IsShort}
 
 -- ---- the words that are heard
 
+-- no more words are heard than slots are shown
 pub heard-few : (channel : Channel) (tick : ℕ) (slots : List (Option Word)) → length (words_from channel tick slots) ≤ length slots
 heard-few channel tick [] = omega arith
 heard-few channel tick (Some word ∷ slots) = omega (arith, heard-few channel (tick + 40) slots)
 heard-few channel tick (None ∷ slots) = omega (arith, heard-few channel (tick + 40) slots)
 
+-- a burst of at most forty whole words is short
 pub whole-short : (burst : ShownBurst) → burst.rest ≡ 0 → length burst.slots ≤ 40 → IsShort burst
 whole-short burst whole few = record {
   slots = few;
@@ -26,12 +28,14 @@ whole-short burst whole few = record {
   words = omega (arith, heard-few burst.channel burst.start burst.slots, few);
 }
 
+-- it ends at most 1,600 ticks after its start
 pub whole-end : (burst : ShownBurst) → burst.rest ≡ 0 → length burst.slots ≤ 40 → burst_end burst ≤ burst.start + 1600
 whole-end burst whole few = omega (arith, whole, few)
 
 -- ---- a command
 
-data-long : (words : List ℕ) → length (map data_word words) ≡ length words
+-- as many words as data words
+pub data-long : (words : List ℕ) → length (map data_word words) ≡ length words
 data-long [] = refl
 data-long (w ∷ words) = ap suc (data-long words)
 
@@ -39,6 +43,7 @@ one-word : (word : Option ℕ) → length (map data_word (option_to_list word)) 
 one-word None = omega arith
 one-word (Some w) = omega arith
 
+-- a command within its ranges has at most forty words
 pub command-few : (kind : Kind) → HasKindRanges kind → length (command_words kind) ≤ 40
 command-few (Receive to sub words) ranges = omega (arith, data-long words, ranges.words)
 command-few (Transmit from sub count) ranges = omega arith
@@ -52,6 +57,7 @@ superseded-low old start [] = omega arith
 superseded-low old start (None ∷ slots) = omega arith
 superseded-low old start (Some command ∷ slots) = omega arith
 
+-- an abandoned answer ends no later than by itself
 pub beside-end : (command : ShownBurst) (old : ShownAnswer) → burst_end (beside_command command old) ≤ burst_end old.burst
 beside-end command old =
     let ticks : ℕ = superseded_end old command.start command.slots - old.burst.start in
@@ -59,6 +65,7 @@ beside-end command old =
     let long : length (take (ticks / 40) old.burst.slots) ≡ min (ticks / 40) (length old.burst.slots) = length-take (ticks / 40) old.burst.slots in
     omega (arith, low, long)
 
+-- and it is short
 pub beside-short : (command : ShownBurst) (old : ShownAnswer) → IsShort old.burst → IsShort (beside_command command old)
 beside-short command old short =
     let ticks : ℕ = superseded_end old command.start command.slots - old.burst.start in

@@ -17,6 +17,7 @@ abbrev pub Apart : List ℕ → Type 0
 Apart [] = Unit {0}
 Apart (x ∷ xs) = Each (λ y. x ≢ y) xs × Apart xs
 
+-- by the rule of the plan
 pub apart-from : (xs : List ℕ) → AllPairs (λ a b. a ≢ b) xs → Apart xs
 apart-from [] h = tt
 apart-from (x ∷ xs) h = (
@@ -29,9 +30,11 @@ apart-from (x ∷ xs) h = (
 by-find : (address : ℕ) (s : Present) (rest : Option Present) (b : Bool) → is_at address s ≡ b → (if b then Some s else rest) ≡ (if is_at address s then Some s else rest)
 by-find address s rest b is = ap (λ (t : Bool). if t then Some s else rest) (sym is)
 
+-- the first station has the address
 pub find-here : (address : ℕ) (s : Present) (stations : List Present) → is_at address s ≡ true → find (is_at address) (s ∷ stations) ≡ Some s
 find-here address s stations here = sym (by-find address s (find (is_at address) stations) true here)
 
+-- the first station has another address
 pub find-later : (address : ℕ) (s : Present) (stations : List Present) → is_at address s ≡ false → find (is_at address) (s ∷ stations) ≡ find (is_at address) stations
 find-later address s stations other = sym (by-find address s (find (is_at address) stations) false other)
 
@@ -90,6 +93,7 @@ found-beside R h address (a ∷ before) (b ∷ later) s all found =
 
 -- ---- one of them is changed
 
+-- one station is changed, and the others stay
 pub changed-zip : {X : Type 0} (R S : X → Present → Type 0) (address : ℕ) (change : Present → Present) →
     ((x : X) (s : Present) → R x s → is_at address s ≡ true → S x (change s)) → ((x : X) (s : Present) → R x s → is_at address s ≡ false → S x s) →
     (xs : List X) (stations : List Present) → AllZip R xs stations → AllZip S xs (with_station address change stations)
@@ -99,10 +103,31 @@ changed-zip R S address change here other (x ∷ xs) [] all = absurd all
 changed-zip R S address change here other (x ∷ xs) (s ∷ stations) all =
     (either-by (S x) (is_at address s) (change s) s (here x s all.0) (other x s all.0), changed-zip R S address change here other xs stations all.1)
 
+-- the changed station is found by the address
+pub find-changed : (address : ℕ) (change : Present → Present) → ((s : Present) → address_of_station (change s) ≡ address_of_station s) → (stations : List Present)
+    (s : Present) → find (is_at address) stations ≡ Some s → find (is_at address) (with_station address change stations) ≡ Some (change s)
+find-changed address change same [] s found = absurd (none-some s found)
+find-changed address change same (a ∷ stations) s found = elim (cases_Bool (is_at address a)) [
+  | inl here ↦
+      let now : Present = if is_at address a then change a else a in
+      let changed : now ≡ change a = ap (λ (b : Bool). if b then change a else a) here in
+      let at : is_at address now ≡ true = ap (is_at address) changed ∙ (ap (λ n. n == address) (same a) ∙ here) in
+      find-here address now (with_station address change stations) at
+      ∙ ap Some (changed ∙ ap change (same_Some a s (sym (find-here address a stations here) ∙ found)))
+  | inr away ↦
+      let now : Present = if is_at address a then change a else a in
+      let changed : now ≡ a = ap (λ (b : Bool). if b then change a else a) away in
+      let at : is_at address now ≡ false = ap (is_at address) changed ∙ away in
+      find-later address now (with_station address change stations) at
+      ∙ find-changed address change same stations s (sym (find-later address a stations away) ∙ found)
+]
+
 -- ---- contained
 
+-- the first number
 pub contains-here : (x : ℕ) (xs : List ℕ) → Contains (x ∷ xs) x
 contains-here x xs = (0, omega arith, refl)
 
+-- a later one
 pub contains-later : (x y : ℕ) (xs : List ℕ) → Contains xs y → Contains (x ∷ xs) y
 contains-later x y xs h = (suc h.0, omega (arith, h.1), h.2)

@@ -23,6 +23,7 @@ spoiled-each P hits n [] all = tt
 spoiled-each P hits n (word ∷ words) all =
     (either (Slot P) (list_any (spoils n) hits) None (Some word) tt all.0, spoiled-each P hits (n + 1) words all.1)
 
+-- what holds of each slot holds of those that a cut leaves
 pub cut-each : (Q : Option Word → Type 0) (hits : List Hit) (slots : List (Option Word)) → Each Q slots → Each Q (cut_by hits slots)
 cut-each Q [] slots all = all
 cut-each Q (Flip word set ∷ hits) slots all = cut-each Q hits slots all
@@ -44,6 +45,7 @@ spoiled-long : (hits : List Hit) (n : ℕ) (words : List Word) → length (spoil
 spoiled-long hits n [] = refl
 spoiled-long hits n (word ∷ words) = ap suc (spoiled-long hits (n + 1) words)
 
+-- a cut leaves no more slots
 pub cut-few : (hits : List Hit) (slots : List (Option Word)) → length (cut_by hits slots) ≤ length slots
 cut-few [] slots = omega arith
 cut-few (Flip word set ∷ hits) slots = cut-few hits slots
@@ -51,6 +53,7 @@ cut-few (Fade word set ∷ hits) slots = cut-few hits slots
 cut-few (Extra words ∷ hits) slots = cut-few hits slots
 cut-few (Cut after ∷ hits) slots = omega (arith, cut-few hits (take after slots), length-take after slots)
 
+-- no more of the own words are shown than are sent
 pub own-few : (hits : List Hit) (words : List Word) → length (own_struck hits words) ≤ length words
 own-few hits words = omega (arith, cut-few hits (spoiled hits 0 words), spoiled-long hits 0 words)
 
@@ -104,6 +107,7 @@ found-later : (own : ℕ) (Q : ℕ → Type 0) (slot : Option Word) (slots : Lis
 found-later own Q slot slots order first None rest is = found-by own Q (command_in slot) slots order first is
 found-later own Q slot slots order first (Some other) rest is = rest is
 
+-- the command that is found is one of those in the slots, and for the terminal
 pub order-found : (own : ℕ) (Q : ℕ → Type 0) (slots : List (Option Word)) → Commands Q slots → (order : Order) → last_order own slots ≡ Some order →
     IsFound own Q order
 order-found own Q [] all order is = absurd (none-some order is)

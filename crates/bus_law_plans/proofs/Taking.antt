@@ -88,6 +88,7 @@ slots-accept : (slots other : List (Option Word)) → slots ≡ other → (accep
 slots-accept slots other same acceptance (inl is) = inl is
 slots-accept slots other same acceptance (inr is) = inr (subst Accepts same is)
 
+-- control passes to a station with an item left, that answered
 pub taken-by : (k : ℕ) (loads : List TimedLoad) (faults : List Fault) (n : ℕ) (item : ItemData) (on : Option ShownAnswer) (channel : Channel) (start : ℕ)
     (stations : List Present) → Apart (map address_of_station stations) → (p : Passing) →
     (message k loads faults n item on channel start stations).ending.passes ≡ Some p → Taken k loads faults n item on channel start stations p

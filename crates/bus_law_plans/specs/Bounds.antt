@@ -21,12 +21,13 @@ abbrev pub still_shown : Option ShownAnswer → ℕ
 still_shown None = 0
 still_shown (Some old) = 1
 
--- the first tick of those that each station has behind it by its frames, 10,000 for each attempt, and those before the first
-abbrev pub frames_begun : List Present → ℕ
-frames_begun stations = sum_by (λ station. ticks_before station.plan station.left) stations
+-- the ticks of the frames before the next item of each station, of all stations together
+abbrev pub frame_ticks_before : List Present → ℕ
+frame_ticks_before stations = sum_by (λ station. ticks_before station.plan station.left) stations
 
+-- no channel is driven later: so many ticks, 10,000 for each attempt, and those before the first
 abbrev pub ticks_bound : Run → ℕ
-ticks_bound run = 8 + frames_begun run.stations + 10000 * length run.attempts
+ticks_bound run = 8 + frame_ticks_before run.stations + 10000 * length run.attempts
 
 -- the tick before which the next attempt doesn't start
 abbrev pub opening_tick : Opening → ℕ
@@ -44,6 +45,8 @@ abbrev pub planned_for : Origin → Option Present → ℕ
 planned_for origin None = origin.tick
 planned_for origin (Some station) = origin.tick + (ticks_before station.plan station.left - origin.offset)
 
+-- the run shows at most three bursts for each attempt, all of them short; both channels are quiet, the next attempt may open and its frame is planned
+-- within the bound; and an answer that runs on ends within it
 pub record KeepsBounds (run : Run) : Type 0 where
   pub bursts : length run.bursts + still_shown run.runs_on ≤ 3 * length run.attempts
   pub short : Each IsShort run.bursts

@@ -1,15 +1,16 @@
 -- What holds of the stations in each run of an accepted plan: what is left of their agendas, and who serves (the project's own).
-use Rattle.std.specs.Prelude.{◌≡◌, ℕ, Bool, not, ◌==◌, List, map, drop, Contains, None, IsSome, IsSomeAnd}
+use Rattle.std.specs.Prelude.{◌≡◌, ℕ, Bool, not, ◌==◌, List, [], ◌∷◌, map, drop, find, Contains, Some, None, IfSome, IsSome, IsSomeAnd}
 use Rattle.std.specs.List.{AllByRecursion as Each, AllZip}
 use Rattle.bus_base.specs.Samples.{other_of}
 use Rattle.bus_base.specs.declared.samples.Channel.{Channel}
 use Rattle.bus_formats.specs.Accepted.{HasItemRanges, IsSendable, Supersedes, HasSuperseding, addresses}
 use Rattle.bus_formats.specs.Plans.{ItemData, StationData, PlanData}
 use Rattle.bus_model.specs.Message.{Present}
-use Rattle.bus_model.specs.Run.{Run, next_item}
-use Rattle.bus_model.specs.Starts.{Entry, agenda, Opening, superseding, taking}
+use Rattle.bus_model.specs.Run.{Run, Next, is_at, next_item}
+use Rattle.bus_model.specs.Starts.{Entry, agenda, Opening, usual, superseding, taking}
 use Rattle.bus_model.specs.Strikes.{ShownAnswer}
 
+-- the items of entries
 abbrev pub items_of : List Entry → List ItemData
 items_of entries = map (λ entry. entry.item) entries
 
@@ -38,7 +39,17 @@ pub record IsRunOf (plan : PlanData) (run : Run) : Type 0 where
   pub holder : Contains (addresses plan) run.holder
   pub taken : (tick : ℕ) → run.opening ≡ taking tick → IsSome (next_item run)
 
--- the next message starts in a tick, on this channel
+-- the next item of a run is the first that is left of the station that holds control, which may send it
+pub record IsNext (plan : PlanData) (run : Run) (next : Next) : Type 0 where
+  pub found : find (is_at run.holder) run.stations ≡ Some next.station
+  pub later : List Entry
+  pub left : next.station.left ≡ next.entry ∷ later
+  pub own : StationData
+  pub holder_is : own.terminal.address ≡ run.holder
+  pub is : IsStationOf plan (not (own.terminal.address == run.holder)) own next.station
+  pub entry : IsEntryOf plan own.terminal.address next.entry
+
+-- the next message supersedes one that was abandoned, on this channel
 abbrev pub SupersedesOn : Channel → Opening → Type 0
 SupersedesOn channel (superseding tick other) = other ≡ channel
 SupersedesOn channel _ = ⊥
@@ -48,3 +59,18 @@ pub record IsSupersededNext (run : Run) (old : ShownAnswer) : Type 0 where
   pub opening : SupersedesOn (other_of old.sent.channel) run.opening
   pub retry : run.retry ≡ None
   pub next : IsSomeAnd (next_item run) (λ next. Supersedes old.sent.address next.entry.item.kind)
+
+-- while an abandoned answer runs on, and only then, the next message supersedes it
+pub record KeepsSuperseding (run : Run) : Type 0 where
+  pub followed : IfSome run.runs_on (λ old. IsSupersededNext run old)
+  pub awaited : (tick : ℕ) (channel : Channel) → run.opening ≡ superseding tick channel → IsSome run.runs_on
+
+-- the station that holds control has nothing left, no answer runs on, and nobody takes control
+pub record IsFinished (run : Run) : Type 0 where
+  pub runs_on : run.runs_on ≡ None
+  pub need : ℕ
+  pub tick : ℕ
+  pub opening_is : run.opening ≡ usual need tick
+  pub station : Present
+  pub found : find (is_at run.holder) run.stations ≡ Some station
+  pub left : station.left ≡ []

@@ -9,13 +9,15 @@ ghost use Rattle.bus_law_plans.specs.Bounds.{KeepsBounds, IsWithinBounds};
 ghost use Rattle.bus_law_plans.specs.Entries.{IsRunOf};
 
 /// Each run of an accepted plan keeps its bounds: it shows at most three bursts for each attempt, each of at most forty words; and no channel is
-/// driven later than 10,000 ticks for each attempt after the frames that its stations have behind them. An attempt keeps it so; and so a run
-/// of at most so many attempts ends within the ticks of all frames, 10,000 ticks for each attempt, and 88 more. At every lag below the wait for an answer,
-/// for any loads.
+/// driven later than the ticks of the frames before the next item of each station, of all stations together, and 10,000 ticks for each attempt. An
+/// attempt keeps it so; and so a run of at most so many attempts ends within the ticks of all frames, 10,000 ticks for each attempt, and 88 more. At
+/// every lag below the wait for an answer, for any loads.
 pub fn a_run_keeps_its_bounds()
     ensures first { (plan : PlanData) → KeepsBounds (first_run plan) }
     ensures next { (k : ℕ) (plan : PlanData) (loads : List TimedLoad) (run : Run) → k < 24 → IsAccepted plan → IsRunOf plan run → KeepsBounds run →
         KeepsBounds (attempt k loads plan.faults run) }
+    ensures kept { (k : ℕ) (plan : PlanData) (loads : List TimedLoad) (n : ℕ) → k < 24 → IsAccepted plan →
+        KeepsBounds (attempts_after k loads plan.faults n (first_run plan)) }
     ensures each { (k : ℕ) (plan : PlanData) (loads : List TimedLoad) (n : ℕ) → k < 24 → IsAccepted plan →
         IsWithinBounds plan n (attempts_after k loads plan.faults n (first_run plan)) }
     ensures all { (k : ℕ) (plan : PlanData) (loads : List TimedLoad) → k < 24 → IsAccepted plan → IsWithinBounds plan (most_attempts plan) (run_of k loads plan) }

@@ -1,0 +1,5 @@
+use Rattle.bus_law_plans.proofs.Nexts.{next-of}
+use Rattle.bus_law_plans.proofs.entries.the_next_item_may_be_sent.Goals as goal
+
+pub returns : goal.returns
+returns _ = next-of
