@@ -62,7 +62,7 @@ not-heard true h = absurd (h refl)
 not-heard false h = refl
 
 -- a tick in which nothing was heard is quiet
-quiet-unless : (past : List Sample) (t : ℕ) → (IsHeardAt past t → ⊥) → IsQuietAt past t
+pub quiet-unless : (past : List Sample) (t : ℕ) → (IsHeardAt past t → ⊥) → IsQuietAt past t
 quiet-unless past t h = elim (cases-heard past t) [
   | inl still ↦ still
   | inr heard ↦ absurd (h heard)
