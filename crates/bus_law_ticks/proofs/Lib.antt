@@ -14,3 +14,4 @@ pub mod NextBurst
 pub mod LastOrder
 pub mod SendsFrom
 pub mod Unanswered
+pub mod Obeys

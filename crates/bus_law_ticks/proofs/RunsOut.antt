@@ -53,11 +53,11 @@ out-found (Some order) p h is = absurd (subst IsOrder (same_Some _ _ is) h)
 -- ---- the conditions, by ticks
 
 -- a test that finds nothing heard
-none-heard : (b : Bool) → not b ≡ true → b ≡ false
+pub none-heard : (b : Bool) → not b ≡ true → b ≡ false
 none-heard true h = cc
 none-heard false h = refl
 
-not-heard : (b : Bool) → (b ≡ true → ⊥) → not b ≡ true
+pub not-heard : (b : Bool) → (b ≡ true → ⊥) → not b ≡ true
 not-heard true h = absurd (h refl)
 not-heard false h = refl
 

@@ -3,3 +3,4 @@ pub mod Blocks
 pub mod Heeding
 pub mod Replies
 pub mod LastOrders
+pub mod Handling
