@@ -33,7 +33,7 @@ block-after blocks (Some taken) sub = elim (cases_eq taken.sub sub) [
 
 module _ (k : ℕ) (terminal : TerminalData) (loads : List TimedLoad) where
   -- the receive blocks that are shown are those that are kept
-  shown : (memory : Memory) (ticks : List Moment) (sub : ℕ) →
+  pub shown : (memory : Memory) (ticks : List Moment) (sub : ℕ) →
       received_on (memory_after k terminal loads record { memory = memory; ticks = ticks }) sub
       ≡ received_on (standing k terminal loads memory ticks).memory sub
   shown memory ticks sub =

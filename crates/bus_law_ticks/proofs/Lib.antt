@@ -11,3 +11,7 @@ pub mod GivenUp
 pub mod RunsOut
 pub mod Counting
 pub mod NextBurst
+pub mod LastOrder
+pub mod SendsFrom
+pub mod Unanswered
+pub mod Obeys

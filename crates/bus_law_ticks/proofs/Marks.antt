@@ -21,7 +21,7 @@ pub same-own : (c : Channel) → same_channel c c ≡ true
 same-own A = refl
 same-own B = refl
 
-same-true : (a b : Channel) → same_channel a b ≡ true → a ≡ b
+pub same-true : (a b : Channel) → same_channel a b ≡ true → a ≡ b
 same-true A A h = refl
 same-true B B h = refl
 same-true A B h = cc

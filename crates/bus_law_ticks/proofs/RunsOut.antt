@@ -53,16 +53,16 @@ out-found (Some order) p h is = absurd (subst IsOrder (same_Some _ _ is) h)
 -- ---- the conditions, by ticks
 
 -- a test that finds nothing heard
-none-heard : (b : Bool) → not b ≡ true → b ≡ false
+pub none-heard : (b : Bool) → not b ≡ true → b ≡ false
 none-heard true h = cc
 none-heard false h = refl
 
-not-heard : (b : Bool) → (b ≡ true → ⊥) → not b ≡ true
+pub not-heard : (b : Bool) → (b ≡ true → ⊥) → not b ≡ true
 not-heard true h = absurd (h refl)
 not-heard false h = refl
 
 -- a tick in which nothing was heard is quiet
-quiet-unless : (past : List Sample) (t : ℕ) → (IsHeardAt past t → ⊥) → IsQuietAt past t
+pub quiet-unless : (past : List Sample) (t : ℕ) → (IsHeardAt past t → ⊥) → IsQuietAt past t
 quiet-unless past t h = elim (cases-heard past t) [
   | inl still ↦ still
   | inr heard ↦ absurd (h heard)

@@ -12,6 +12,7 @@ ghost use Rattle.bus_model.specs.Orders.{Order, free};
 ghost use Rattle.bus_model.specs.Hearing.{Moment, Hearing, heard_on};
 ghost use Rattle.bus_model.specs.Standing.{Standing, Handled, obeys, settles, runs_out, is_promise};
 ghost use Rattle.bus_model.specs.Terminal.{standing, order_now, given_up, took_now};
+ghost use Rattle.bus_law_ticks.specs.Handling.{IsObeyed, IsTaken};
 ghost use Rattle.bus_law_ticks.specs.Heeding.{IsAddressedAt};
 
 use bus_model::at_most_one_order_a_tick;
@@ -23,6 +24,30 @@ pub fn an_order_is_handled_with_the_end_of_its_burst()
     ensures settled { (k : ℕ) (terminal : TerminalData) (s : Standing) (now : Moment) (past : List Moment) (end rest : ℕ) (slots : List (Option Word)) →
         order_now k terminal (now ∷ past) s ≡ Some (settles end slots rest) → end + k ≡ length past }
 {}
+
+/// A command is obeyed in a tick exactly where the end of its burst became known in it, its channel was heeded, it is the last command for the
+/// terminal in that burst, and no slot with a command for the terminal on the other channel is newer (superseding commands, MIL-STD-1553B 4.4.3.2).
+/// At every lag below a slot's forty ticks.
+pub fn a_command_is_obeyed_unless_a_newer_one_came()
+    ensures { (k : ℕ) (terminal : TerminalData) (loads : List TimedLoad) (memory : Memory) (now : Moment) (past : List Moment) (c : Channel) (end rest : ℕ)
+        (order : Order) → k ≤ 39 →
+        (order_now k terminal (now ∷ past) (standing k terminal loads memory past) ≡ Some (obeys c end order rest))
+        ↔ IsObeyed k terminal loads record { memory = memory; ticks = past } now c end order rest }
+{
+    at_most_one_order_a_tick();
+}
+
+/// A relay's receiver takes a burst for its promise in a tick exactly where the end of that burst became known in it, on the channel of the promise,
+/// which was heeded; the burst began after at most 30 dead ticks, it has no command for the terminal, and no newer command came on the other
+/// channel (4.4.3.2; how long it waits is the project's own). At every lag below a slot's forty ticks.
+pub fn a_promised_burst_is_taken_within_30_dead_ticks()
+    ensures { (k : ℕ) (terminal : TerminalData) (loads : List TimedLoad) (memory : Memory) (now : Moment) (past : List Moment) (end rest : ℕ)
+        (slots : List (Option Word)) → k ≤ 39 → let s : Standing = standing k terminal loads memory past in
+        (order_now k terminal (now ∷ past) s ≡ Some (settles end slots rest))
+        ↔ IsTaken k terminal loads record { memory = memory; ticks = past } now s end slots rest }
+{
+    at_most_one_order_a_tick();
+}
 
 /// What an order left is given up exactly where a slot with a command for the terminal ended on the other channel from the tick of the order on
 /// (superseding commands, MIL-STD-1553B 4.4.3.2), or a tick on its own channel wasn't quiet from the end of its burst to the tick in which its
