@@ -1,7 +1,6 @@
 -- The command of a message, its end known: every station is what the message table says, and what came to pass is what it says.
-use Rattle.std.proofs.Common.{◌≡◌, ◌≢◌, inl, inr, ℕ, suc, ◌+◌, ◌*◌, ◌%◌, ◌<◌, ◌≤◌, true, List, [], ◌∷◌, ◌++◌, length, map, Option, Some, None, refl, sym, ap, ◌∙◌, subst, arith, length-append}
-use Rattle.std.proofs.lemmas.Bool.{eq-eqb}
-use Rattle.std.specs.Prelude.{slice_get, flat_map, option_map, not, ◌==◌}
+use Rattle.std.proofs.Common.{◌≡◌, ◌≢◌, inl, inr, ℕ, suc, ◌+◌, ◌*◌, ◌%◌, ◌<◌, ◌≤◌, true, List, [], ◌∷◌, ◌++◌, length, map, Option, Some, None, refl, sym, ap, ◌∙◌, subst, arith, length-append, false}
+use Rattle.std.specs.Prelude.{slice_get, flat_map, option_map, not}
 use Rattle.bus_base.specs.Samples.{other_of}
 use Rattle.bus_base.specs.declared.samples.Channel.{Channel}
 use Rattle.bus_base.specs.declared.samples.Drive.{Drive}
@@ -18,20 +17,16 @@ use Rattle.bus_formats.specs.declared.fault.Hit.{Hit}
 use Rattle.bus_formats.specs.declared.form.Outcome.TheVariants.{Sent}
 use Rattle.bus_formats.specs.declared.form.Shape.{Shape}
 use Rattle.bus_model.specs.Attempts.{Begun, without_words}
-use Rattle.bus_model.specs.Control.{StationSoFar, so_far}
 use Rattle.bus_model.specs.Course.{Course, quiet_from, close}
-use Rattle.bus_model.specs.Memory.{with_loads}
 use Rattle.bus_model.specs.Message.{Present, After, delivered, unmoved, after_command, blocks_taken}
 use Rattle.bus_model.specs.Starts.{Entry, starts}
 use Rattle.bus_model.specs.Strikes.{ShownBurst, hits_on, struck, burst_end}
 use Rattle.bus_model.specs.Sending.{drive_sample}
 use Rattle.bus_model.specs.Terminal.{took_now}
 use Rattle.bus_model.specs.Transmissions.{station_drive}
-use Rattle.bus_model.specs.Wire.{shown}
-use Rattle.bus_model.specs.World.{Trace, is_present, drives_after}
-use Rattle.bus_law_phases.specs.Silences.{SomeoneIsBusy}
+use Rattle.bus_model.specs.World.{Trace, is_present, drives_after, run_is_over}
 use Rattle.bus_model.specs.WorldLog.{present_stations, attempt_at, ended_by}
-use Rattle.bus_law_control.proofs.Holding.{ended-before, heard-nothing}
+use Rattle.bus_law_control.proofs.Holding.{heard-nothing}
 use Rattle.bus_law_duties.specs.Duties.{AreApart}
 use Rattle.bus_law_duties.proofs.OneOwes.{one-owes-at-most}
 use Rattle.bus_law_line.specs.Senders.{Sender, attempt_to_come}
@@ -41,35 +36,33 @@ use Rattle.bus_law_messages.specs.Settled.{IsServing}
 use Rattle.bus_law_messages.proofs.Closing.{sent-command}
 use Rattle.bus_law_messages.proofs.Sending.{shown-long}
 use Rattle.bus_law_parts.specs.Parts.{part_ticks, HitsFit}
-use Rattle.bus_law_parts.proofs.Counting.{count-command}
 use Rattle.bus_law_stations.specs.Messages.{BeginsMessage, message_begun}
 use Rattle.bus_law_stations.specs.Silence.{AwaitsFirst}
 use Rattle.bus_law_stations.specs.Turns.{KeepsControl, Serves}
 use Rattle.bus_law_stations.proofs.Resting.{cases-option}
-use Rattle.bus_law_stations.proofs.Turning.{holding-hears}
 use Rattle.bus_law_table.specs.Happened.{took_in, blocks_in as blocks_now, burst_found}
-use Rattle.bus_law_table.specs.Stations.{loaded_at}
 use Rattle.bus_law_table.proofs.AllStations.{took-none, IsTold, all-told}
 use Rattle.bus_law_table.proofs.Kept.{command-kept}
-use Rattle.bus_law_table.proofs.Loads.{loaded-alike}
 use Rattle.bus_law_table.proofs.Pairing.{beside-filter_map, filter_map-map}
 use Rattle.bus_law_table.proofs.Pairing as lists
-use Rattle.bus_law_table.proofs.Takes.{unheard-keeps, unheard-takes}
+use Rattle.bus_law_table.proofs.Takes.{unheard-takes}
+use Rattle.bus_law_phases.specs.Answers.{attempts_ended}
 use Rattle.bus_law_phases.specs.Commands.{ended_with_command, CommandPasses}
 use Rattle.bus_law_phases.specs.Moments.{IsHolder, IsAfter, Underway}
-use Rattle.bus_law_phases.specs.PartRuns.{burst_shown, RunsAlone, PartRuns}
+use Rattle.bus_law_phases.specs.PartRuns.{burst_shown, RunsAlone, IsFirstOf, PartRuns}
 use Rattle.bus_law_phases.specs.Passages.{HoldsAlone, IsOrderly, Passage}
 use Rattle.bus_law_phases.specs.Rests.{Rested}
-use Rattle.bus_law_phases.specs.Scenarios.{Scenario, trace_at, shown_at, driven_at, commands_in, course_of, hearing_of, present_of, IsPresentAt, NoneTakesFrom}
+use Rattle.bus_law_phases.specs.Scenarios.{Scenario, trace_at, shown_at, driven_at, course_of, hearing_of, IsPresentAt, NoneTakesFrom}
 use Rattle.bus_law_phases.proofs.Commanding.{controls, shows-of, own-drives, others-silent, all-still, all-takes, held, someone-busy}
+use Rattle.bus_law_phases.proofs.AnswerHolders.{closed-attempts, no-attempts}
+use Rattle.bus_law_phases.proofs.AnswerLeft.{holder-left}
 use Rattle.bus_law_phases.proofs.CommandFits.{command-hits-fit, command-shows}
-use Rattle.bus_law_phases.proofs.Legs.{sent-ticks, alone-for, trace-is, drives-one, goes-on, leg-passes}
+use Rattle.bus_law_phases.proofs.Legs.{busy-goes-on}
 use Rattle.bus_law_phases.proofs.PartEnding.{part-ended, all-quiet, part-bursts, fresh-after, quiet-after}
 use Rattle.bus_law_phases.proofs.CommandServer.{shown_burst, heard-command, server-after}
 use Rattle.bus_law_phases.proofs.PartPassing.{part-passes}
 use Rattle.bus_law_phases.proofs.PartQuiet.{part-quiet}
-use Rattle.bus_law_phases.proofs.PartRunning.{one-more}
-use Rattle.bus_law_phases.proofs.Resting.{no-attempt}
+use Rattle.bus_law_phases.proofs.PartTicks.{PartTicks, all-ticks, one-begins}
 use Rattle.bus_law_phases.proofs.Spares.{all-at, one-gives, beside-into}
 
 module _ (w : Scenario) (t place : ℕ) (holder : StationData) (stations : List Present) (entry : Entry) (lag : w.lag ≡ 3) (accepted : IsAccepted w.plan)
@@ -77,9 +70,6 @@ module _ (w : Scenario) (t place : ℕ) (holder : StationData) (stations : List 
     (begins : BeginsMessage (course_of w holder (shown_at w t)) (shown_at w t) entry) (stays : NoneTakesFrom w t) (separate : AreApart stations) where
   abbrev past : List Pair
   past = shown_at w t
-
-  abbrev k : ℕ
-  k = w.lag
 
   long : length (shown_at w t) ≡ t
   long = shown-long w.lag w.plan w.loads w.outside w.absent t
@@ -115,80 +105,63 @@ module _ (w : Scenario) (t place : ℕ) (holder : StationData) (stations : List 
   abbrev limit : ℕ
   limit = part_ticks hits words + suc w.lag
 
-  bound : limit ≤ part_ticks hits words + 4
-  bound = omega (arith, lag)
-
-  early : m < limit
-  early = omega arith
-
-  last-is : suc m ≡ limit
-  last-is = omega arith
-
   abbrev now : Trace
   now = trace_at w t
 
-  own : (ticks : List Pair) → RunsAlone w.lag c ticks → length ticks < limit →
+  own : (ticks : List Pair) → IsFirstOf w.lag c hits words ticks → length ticks < limit →
       slice_get (drives_after w.lag w.plan w.loads w.outside w.absent (ticks ++ past)) place ≡ Some (drive_sample c Command words (length ticks))
-  own ticks alone few = own-drives w now place holder stations entry lag rested begins stays-here ticks alone
+  own ticks alone few = own-drives w now place holder stations entry lag rested begins stays-here ticks alone.alone
 
-  others : (ticks : List Pair) → RunsAlone w.lag c ticks → length ticks < limit → (other : ℕ) → other ≢ place →
+  others : (ticks : List Pair) → IsFirstOf w.lag c hits words ticks → length ticks < limit → (other : ℕ) → other ≢ place →
       station_drive other (drives_after w.lag w.plan w.loads w.outside w.absent (ticks ++ past)) ≡ Silent
-  others ticks alone few = others-silent w now place holder stations entry lag rested begins stays-here ticks alone
+  others ticks alone few = others-silent w now place holder stations entry lag rested begins stays-here ticks alone.alone
 
-  still : (ticks : List Pair) → RunsAlone w.lag c ticks → length ticks < limit → (other : ℕ) (station : StationData) → IsPresentAt w other station →
+  still : (ticks : List Pair) → IsFirstOf w.lag c hits words ticks → length ticks < limit → (other : ℕ) (station : StationData) → IsPresentAt w other station →
       (course_of w station (ticks ++ past)).ended ≡ (course_of w station past).ended
-  still ticks alone few = all-still w now place holder stations entry lag rested begins stays-here ticks alone
+  still ticks alone few = all-still w now place holder stations entry lag rested begins stays-here ticks alone.alone
 
-  takes : (x : Pair) (ticks : List Pair) → RunsAlone w.lag c (x ∷ ticks) → length (x ∷ ticks) < limit → (other : ℕ) (station : StationData) →
+  takes : (x : Pair) (ticks : List Pair) → IsFirstOf w.lag c hits words (x ∷ ticks) → length (x ∷ ticks) < limit → (other : ℕ) (station : StationData) →
       IsPresentAt w other station → took_now w.lag station.terminal w.loads (hearing_of w station ((x ∷ ticks) ++ past)) ≡ None
-  takes x ticks alone few = all-takes w now place holder stations entry lag rested begins stays-here x ticks alone
+  takes x ticks alone few = all-takes w now place holder stations entry lag rested begins stays-here x ticks alone.alone
 
-  hands : (ticks : List Pair) → RunsAlone w.lag c ticks → length ticks < limit → HoldsAlone w (ticks ++ past)
-  hands ticks alone few = held w now place holder stations entry lag rested begins stays-here ticks alone
+  hands : (ticks : List Pair) → IsFirstOf w.lag c hits words ticks → length ticks < limit → HoldsAlone w (ticks ++ past)
+  hands ticks alone few = held w now place holder stations entry lag rested begins stays-here ticks alone.alone
 
-  busy : (ticks : List Pair) → RunsAlone w.lag c ticks → length ticks < limit → SomeoneIsBusy w (ticks ++ past)
-  busy ticks alone few = someone-busy w now place holder stations entry lag rested begins stays-here ticks alone
+  goes : (ticks : List Pair) → IsFirstOf w.lag c hits words ticks → length ticks < limit → (i : ℕ) → shown_at w i ≡ ticks ++ past →
+      run_is_over w.lag w.plan w.loads w.outside w.absent i ≡ false
+  goes ticks alone few i same =
+      busy-goes-on w i (ticks ++ past) same (someone-busy w now place holder stations entry lag rested begins stays-here ticks alone.alone)
 
   -- ---- the ticks
 
-  sent-first : (ticks : List Pair) × (sent : List (List Drive)) × PartRuns w now s hits m ticks sent
-  sent-first =
-      sent-ticks w t s hits limit lag (rested.fresh c place) rested.spent rested.rests refl fits some bound own others still takes hands busy m (omega arith)
-
-  abbrev ticks : List Pair
-  ticks = sent-first.0
-
-  abbrev sent : List (List Drive)
-  sent = sent-first.1
-
-  alone : RunsAlone w.lag c ticks
-  alone =
-      alone-for w t s hits limit lag (rested.fresh c place) rested.spent rested.rests refl fits some bound own others still takes hands busy m ticks sent early
-      sent-first.2
-
-  abbrev driven : List Drive
-  driven = drives_after w.lag w.plan w.loads w.outside w.absent (ticks ++ past)
+  sending : PartTicks w t s hits 1
+  sending =
+      all-ticks w t s hits lag (rested.fresh c place) rested.spent rested.rests refl fits some own others still takes hands goes 1
+      (one-begins w t s hits refl)
 
   abbrev x : Pair
-  x = shown w.plan.faults ((driven ∷ sent) ++ driven_at w t)
+  x = sending.newest
 
-  whole-at : PartRuns w now s hits (suc m) (x ∷ ticks) (driven ∷ sent)
-  whole-at =
-      one-more w now s hits limit lag (rested.fresh c place) rested.spent refl fits some bound own others m ticks sent early sent-first.2
+  abbrev ticks : List Pair
+  ticks = sending.ticks
 
-  whole : PartRuns w now s hits limit (x ∷ ticks) (driven ∷ sent)
-  whole = subst (λ n. PartRuns w now s hits n (x ∷ ticks) (driven ∷ sent)) last-is whole-at
+  abbrev driven : List Drive
+  driven = sending.driven
+
+  abbrev sent : List (List Drive)
+  sent = sending.sent
+
+  abbrev whole : PartRuns w now s hits limit (x ∷ ticks) (driven ∷ sent)
+  whole = sending.whole
+
+  abbrev alone : RunsAlone w.lag c ticks
+  alone = sending.first.alone
 
   abbrev later : List Pair
   later = (x ∷ ticks) ++ past
 
-  later-trace : trace_at w (t + suc m) ≡ record { shown = later; driven = (driven ∷ sent) ++ driven_at w t }
-  later-trace =
-      trace-is w t s hits limit lag (rested.fresh c place) rested.spent rested.rests refl fits some bound own others still takes hands busy (suc m) (x ∷ ticks)
-      (driven ∷ sent) whole-at
-
   many : length ticks ≡ w.lag + part_ticks hits words
-  many = let count = whole-at.many in omega (arith, count)
+  many = let count = sending.many in omega (arith, count)
 
   abbrev command : ShownBurst
   command = shown_burst c (length past) hits words
@@ -230,30 +203,6 @@ module _ (w : Scenario) (t place : ℕ) (holder : StationData) (stations : List 
     | inr expects ↦ ap (λ (d : Course). d.holds) (closed.waits expects.0 expects.1).0 ∙ rested.holds
   ]
 
-  -- its terminal keeps what it kept
-  holder-memory : (hearing_of w holder later).memory ≡ (hearing_of w holder past).memory
-  holder-memory =
-      ap (λ (so : StationSoFar). so.hearing.memory)
-      (holding-hears w.lag holder (starts w.plan holder) w.loads w.outside past (x ∷ ticks) kept)
-
-  keeps-later : (y : Present) → present_of w holder past ≡ loaded_at w.loads (length past) y →
-      (present_of w holder later).memory ≡ (loaded_at w.loads (length later) y).memory
-  keeps-later y same =
-      let a = holder.terminal.address in
-      let plan : holder ≡ y.plan = ap (λ (p : Present). p.plan) same in
-      let before = unheard-keeps w.lag holder (starts w.plan holder) w.loads w.outside past
-      (heard-nothing w.lag holder (starts w.plan holder) w.loads w.outside past rested.holds) in
-      let then_ = unheard-keeps w.lag holder (starts w.plan holder) w.loads w.outside later
-      (heard-nothing w.lag holder (starts w.plan holder) w.loads w.outside later holds-later) in
-      let same_memory : with_loads a (length past) w.loads (hearing_of w holder past).memory ≡ with_loads a (length past) w.loads y.memory =
-      sym before ∙ ap (λ (p : Present). p.memory) same
-      ∙ ap (λ (st : StationData). with_loads st.terminal.address (length past) w.loads y.memory) (sym plan) in
-      let both : length ((x ∷ ticks) ++ past) ≡ length (x ∷ ticks) + length past = length-append (x ∷ ticks) past in
-      then_
-      ∙ ap (λ m. with_loads a (length later) w.loads m) holder-memory
-      ∙ loaded-alike a (length past) (length later) w.loads (hearing_of w holder past).memory y.memory (omega (arith, both)) same_memory
-      ∙ ap (λ (st : StationData). with_loads st.terminal.address (length later) w.loads y.memory) plan
-
   -- ---- the others
 
   prompt : (other : ℕ) (station : StationData) → IsPresentAt w other station → 8 ≤ station.terminal.delay
@@ -287,12 +236,13 @@ module _ (w : Scenario) (t place : ℕ) (holder : StationData) (stations : List 
   after-one station y is = elim is [
     | inl own ↦ inl (
       own.0,
-      subst (IsHolder w later station) (sym own.2) (subst (λ st. IsHolder w later st (unmoved y)) (sym own.0) record {
-        plan = sym (ap (λ (p : Present). p.plan) own.1);
-        memory = keeps-later y own.1;
-        serves = sym (ap (λ (p : Present). p.serves) own.1) ∙ ap not rested.holds;
-        duty = refl;
-      }),
+      subst (IsHolder w later station) (sym own.2) (subst (λ st. IsHolder w later st (unmoved y)) (sym own.0)
+          (holder-left w past (x ∷ ticks) holder rested.holds kept (unmoved y) record {
+            plan = sym (ap (λ (p : Present). p.plan) own.1);
+            memory = ap (λ (p : Present). p.memory) own.1;
+            serves = sym (ap (λ (p : Present). p.serves) own.1) ∙ ap not rested.holds;
+            duty = refl;
+          })),
     )
     | inr other ↦ (let at : IsPresentAt w other.0 station = record { there = other.1; present = other.3 } in
         inr (
@@ -355,10 +305,8 @@ module _ (w : Scenario) (t place : ℕ) (holder : StationData) (stations : List 
       is_present w.absent station ≡ true →
       ended_by w.lag w.plan w.loads w.outside w.absent (x ∷ (ticks ++ past)) (length (ticks ++ past)) station ≡ []
   others-end other station there apart present =
-      ap (λ (d : Course). attempt_at w.lag w.plan w.loads w.outside w.absent station.terminal.address (length (ticks ++ past)) d.ended)
-      (heard-of other station there apart present).course
-      ∙ no-attempt w station.terminal.address (length (ticks ++ past)) (length past) (course_of w station past).ended (omega (arith, count-before))
-      (ended-before w.lag station (starts w.plan station) (so_far w.lag station (starts w.plan station) w.loads w.outside past).takes past)
+      ap (attempts_ended w station (length (ticks ++ past))) (heard-of other station there apart present).course
+      ∙ no-attempts w station past (length (ticks ++ past)) (omega (arith, count-before))
 
   abbrev Ends : Option Shape → Type 0
   Ends shape =
@@ -367,15 +315,14 @@ module _ (w : Scenario) (t place : ℕ) (holder : StationData) (stations : List 
 
   holder-ends : (shape : Option Shape) → (answers_of entry.item.kind).first ≡ shape → Ends shape
   holder-ends None none =
-      let same : (burst_end command + w.lag == length (ticks ++ past)) ≡ true = eq-eqb (burst_end command + w.lag) (length (ticks ++ past)) (sym known) in
-      ap (λ (d : Course). attempt_at w.lag w.plan w.loads w.outside w.absent holder.terminal.address (length (ticks ++ past)) d.ended)
-      (closed.sent none ∙ ap (close (course_of w holder past) begun (without_words Sent None None)) (ap (λ n. n + w.lag) same-end))
-      ∙ rw same refl
+      let ending = without_words Sent None None in
+      ap (attempts_ended w holder (length (ticks ++ past)))
+      (closed.sent none ∙ ap (close (course_of w holder past) begun ending) (ap (λ n. n + w.lag) same-end))
+      ∙ ap (λ n. attempts_ended w holder n (close (course_of w holder past) begun ending (burst_end command + w.lag))) known
+      ∙ closed-attempts w holder (course_of w holder past) begun ending (burst_end command + w.lag)
   holder-ends (Some shape) expects =
-      ap (λ (d : Course). attempt_at w.lag w.plan w.loads w.outside w.absent holder.terminal.address (length (ticks ++ past)) d.ended)
-      (closed.waits shape expects).0
-      ∙ no-attempt w holder.terminal.address (length (ticks ++ past)) (length past) (course_of w holder past).ended (omega (arith, count-before))
-      (ended-before w.lag holder (starts w.plan holder) (so_far w.lag holder (starts w.plan holder) w.loads w.outside past).takes past)
+      ap (attempts_ended w holder (length (ticks ++ past))) (closed.waits shape expects).0
+      ∙ no-attempts w holder past (length (ticks ++ past)) (omega (arith, count-before))
 
   closes-then : flat_map (ended_by w.lag w.plan w.loads w.outside w.absent (x ∷ (ticks ++ past)) (length (ticks ++ past)))
       (present_stations w.lag w.plan w.loads w.outside w.absent)
@@ -388,17 +335,6 @@ module _ (w : Scenario) (t place : ℕ) (holder : StationData) (stations : List 
   next-tick : t + suc m ≡ suc (t + m)
   next-tick = omega arith
 
-  counted-leg : (more : List Pair) (out : List (List Drive)) → PartRuns w now s hits m more out →
-      commands_in w (out ++ driven_at w t) ≡ commands_in w (driven_at w t) + 1
-  counted-leg more [] so = let none = so.long in absurd (omega (arith, none, some))
-  counted-leg more (drives ∷ out) so =
-      count-command w.plan.faults s hits (driven_at w t) out drives so.part refl so.commands ∙ omega arith
-
-  leg : Passage w t (t + m) record { blocks = []; bursts = []; attempts = []; commands = 1 }
-  leg =
-      leg-passes w t s hits limit lag (rested.fresh c place) rested.spent rested.rests refl fits some bound own others still takes hands busy m early 1
-      counted-leg
-
   held-then : HoldsAlone w later
   held-then = record {
     place = place;
@@ -410,23 +346,11 @@ module _ (w : Scenario) (t place : ℕ) (holder : StationData) (stations : List 
 
   last : IsOrderly w (t + m)
   last = record {
-    alone = drives-one w t s hits limit lag (rested.fresh c place) rested.spent rested.rests refl fits some bound own others still takes hands busy m early;
+    alone = sending.drives;
     hands = inl (subst (λ u. HoldsAlone w (shown_at w u)) next-tick
-        (subst (HoldsAlone w) (sym (ap (λ (tr : Trace). tr.shown) later-trace)) held-then));
-    goes_on = goes-on w t s hits limit lag (rested.fresh c place) rested.spent rested.rests refl fits some bound own others still takes hands busy m early;
+        (subst (HoldsAlone w) (sym (ap (λ (tr : Trace). tr.shown) sending.trace)) held-then));
+    goes_on = sending.goes_on;
   }
-
-  first-trace : shown_at w (t + m) ≡ ticks ++ past
-  first-trace =
-      ap (λ (tr : Trace). tr.shown)
-      (trace-is w t s hits limit lag (rested.fresh c place) rested.spent rested.rests refl fits some bound own others still takes hands busy m ticks sent
-      sent-first.2)
-
-  counted-all : commands_in w (driven_at w (t + suc m)) ≡ commands_in w (driven_at w t) + 1
-  counted-all =
-      ap (λ (tr : Trace). commands_in w tr.driven) later-trace
-      ∙ count-command w.plan.faults s hits (driven_at w t) sent driven whole.part refl whole.commands
-      ∙ omega arith
 
   passage-then : Passage w t (t + suc m) record {
     blocks = blocks_taken w.lag w.loads command afters;
@@ -436,8 +360,8 @@ module _ (w : Scenario) (t place : ℕ) (holder : StationData) (stations : List 
   }
   passage-then =
       part-passes w t m x (ticks ++ past) (blocks_taken w.lag w.loads command afters) command
-      (ended_with_command holder.terminal.address begun (burst_end command + w.lag) (answers_of entry.item.kind).first) 1 leg first-trace
-      (ap (λ (tr : Trace). tr.shown) later-trace) blocks-then bursts-then closes-then counted-all last
+      (ended_with_command holder.terminal.address begun (burst_end command + w.lag) (answers_of entry.item.kind).first) 1 sending.passed sending.before
+      (ap (λ (tr : Trace). tr.shown) sending.trace) blocks-then bursts-then closes-then sending.counted last
 
   quiet-then : quiet_from later ≡ burst_end command
   quiet-then =
@@ -448,12 +372,12 @@ module _ (w : Scenario) (t place : ℕ) (holder : StationData) (stations : List 
 
   from-start : CommandPasses w t (length past) holder entry place stations
   from-start =
-      let shows = ap (λ (tr : Trace). tr.shown) later-trace in
+      let shows = ap (λ (tr : Trace). tr.shown) sending.trace in
       let at = known-at in
       let then_shown : shown_at w (burst_end command + suc w.lag) ≡ later = ap (shown_at w) (sym at) ∙ shows in
       record {
         moment = subst (λ u. Underway w (trace_at w u) place holder c (burst_end command) First afters) at
-            (subst (λ tr. Underway w tr place holder c (burst_end command) First afters) (sym later-trace) moment-then);
+            (subst (λ tr. Underway w tr place holder c (burst_end command) First afters) (sym sending.trace) moment-then);
         passage = subst (λ u. Passage w t u record {
           blocks = blocks_taken w.lag w.loads command afters;
           bursts = command ∷ [];

@@ -8,6 +8,7 @@ use Rattle.bus_base.specs.declared.samples.Channel.{Channel}
 use Rattle.bus_base.specs.declared.samples.Drive.{Drive}
 use Rattle.bus_base.specs.declared.samples.Drive.TheVariants.{Silent}
 use Rattle.bus_base.specs.declared.samples.Pair.{Pair}
+use Rattle.bus_words.specs.declared.word.Word.{Word}
 use Rattle.bus_base.specs.declared.samples.Sample.{Sample}
 use Rattle.bus_line.specs.Past.{runs}
 use Rattle.bus_line.specs.Channels.{on_channel, quiet_both, bursts}
@@ -35,15 +36,22 @@ use Rattle.bus_law_table.proofs.Pairing.{none-each}
 use Rattle.bus_law_table.proofs.Ticks.{leg-bursts}
 use Rattle.bus_law_phases.specs.Scenarios.{Scenario, trace_at, shown_at, driven_at, blocks_in, attempts_in, commands_in, course_of, hearing_of, standing_of, IsPresentAt}
 use Rattle.bus_law_phases.specs.Passages.{HoldsAlone, IsOrderly, Passage}
-use Rattle.bus_law_phases.specs.PartRuns.{RunsAlone, PartRuns}
+use Rattle.bus_law_phases.specs.PartRuns.{RunsAlone, IsFirstOf, PartRuns}
 use Rattle.bus_law_phases.specs.Silences.{SomeoneIsBusy}
-use Rattle.bus_law_phases.proofs.PartRunning.{part-runs, one-more, runs-alone}
+use Rattle.bus_law_phases.proofs.PartRunning.{on-more, part-runs, one-more, first-of}
 use Rattle.bus_law_phases.proofs.Resting.{each-present, no-attempt, none-of-each}
 use Rattle.bus_law_phases.proofs.Silence.{not-all, and-false}
 
 -- one tick fewer
 pub runs-less : (k : ℕ) (c : Channel) (x : Pair) (ticks : List Pair) → RunsAlone k c (x ∷ ticks) → RunsAlone k c ticks
 runs-less k c x ticks runs = record { leg = runs.leg.2; quiet = ap (λ (xs : List Sample). drop 1 xs) runs.quiet }
+
+pub first-less : (k : ℕ) (c : Channel) (hits : List Hit) (words : List Word) (x : Pair) (ticks : List Pair) → IsFirstOf k c hits words (x ∷ ticks) →
+    IsFirstOf k c hits words ticks
+first-less k c hits words x ticks first = record {
+  alone = runs-less k c x ticks first.alone;
+  shown = ap (λ (xs : List Sample). drop 1 xs) (sym (on-more c x ticks) ∙ first.shown);
+}
 
 -- a run isn't over where somebody is busy
 pub busy-goes-on : (w : Scenario) (i : ℕ) (past : List Pair) → shown_at w i ≡ past → SomeoneIsBusy w past →
@@ -62,17 +70,18 @@ module _ (w : Scenario) (t : ℕ) (s : Sender) (hits : List Hit) (limit : ℕ) (
     (rests : (d : Channel) → runs w.lag (on_channel d (shown_at w t)) ≡ false)
     (named : hits_on w.plan.faults (attempt_to_come w.plan.faults s.part (driven_at w t)) s.part ≡ hits)
     (fits : HitsFit s.part hits s.words) (some : 0 < part_ticks hits s.words) (bound : limit ≤ part_ticks hits s.words + 4)
-    (own : (ticks : List Pair) → RunsAlone w.lag s.channel ticks → length ticks < limit →
+    (own : (ticks : List Pair) → IsFirstOf w.lag s.channel hits s.words ticks → length ticks < limit →
     slice_get (drives_after w.lag w.plan w.loads w.outside w.absent (ticks ++ shown_at w t)) s.station
     ≡ Some (drive_sample s.channel s.part s.words (length ticks)))
-    (others : (ticks : List Pair) → RunsAlone w.lag s.channel ticks → length ticks < limit → (other : ℕ) → other ≢ s.station →
+    (others : (ticks : List Pair) → IsFirstOf w.lag s.channel hits s.words ticks → length ticks < limit → (other : ℕ) → other ≢ s.station →
     station_drive other (drives_after w.lag w.plan w.loads w.outside w.absent (ticks ++ shown_at w t)) ≡ Silent)
-    (still : (ticks : List Pair) → RunsAlone w.lag s.channel ticks → length ticks < limit → (place : ℕ) (station : StationData) →
+    (still : (ticks : List Pair) → IsFirstOf w.lag s.channel hits s.words ticks → length ticks < limit → (place : ℕ) (station : StationData) →
     IsPresentAt w place station → (course_of w station (ticks ++ shown_at w t)).ended ≡ (course_of w station (shown_at w t)).ended)
-    (takes : (x : Pair) (ticks : List Pair) → RunsAlone w.lag s.channel (x ∷ ticks) → length (x ∷ ticks) < limit → (place : ℕ) (station : StationData) →
+    (takes : (x : Pair) (ticks : List Pair) → IsFirstOf w.lag s.channel hits s.words (x ∷ ticks) → length (x ∷ ticks) < limit → (place : ℕ) (station : StationData) →
     IsPresentAt w place station → took_now w.lag station.terminal w.loads (hearing_of w station ((x ∷ ticks) ++ shown_at w t)) ≡ None)
-    (hands : (ticks : List Pair) → RunsAlone w.lag s.channel ticks → length ticks < limit → HoldsAlone w (ticks ++ shown_at w t))
-    (busy : (ticks : List Pair) → RunsAlone w.lag s.channel ticks → length ticks < limit → SomeoneIsBusy w (ticks ++ shown_at w t)) where
+    (hands : (ticks : List Pair) → IsFirstOf w.lag s.channel hits s.words ticks → length ticks < limit → HoldsAlone w (ticks ++ shown_at w t))
+    (goes : (ticks : List Pair) → IsFirstOf w.lag s.channel hits s.words ticks → length ticks < limit → (i : ℕ) → shown_at w i ≡ ticks ++ shown_at w t →
+    run_is_over w.lag w.plan w.loads w.outside w.absent i ≡ false) where
   abbrev c : Channel
   c = s.channel
 
@@ -84,8 +93,8 @@ module _ (w : Scenario) (t : ℕ) (s : Sender) (hits : List Hit) (limit : ℕ) (
   pub sent-ticks : (n : ℕ) → n ≤ limit → (ticks : List Pair) × (sent : List (List Drive)) × PartRuns w (trace_at w t) s hits n ticks sent
   sent-ticks n early = part-runs w (trace_at w t) s hits limit lag fresh spent named fits some bound own others n early
 
-  pub alone-for : (n : ℕ) (ticks : List Pair) (sent : List (List Drive)) → n < limit → PartRuns w (trace_at w t) s hits n ticks sent → RunsAlone w.lag c ticks
-  alone-for n ticks sent early so = runs-alone w (trace_at w t) s hits limit lag fresh spent named fits some bound own others n ticks sent early so
+  pub first-for : (n : ℕ) (ticks : List Pair) (sent : List (List Drive)) → n < limit → PartRuns w (trace_at w t) s hits n ticks sent → IsFirstOf w.lag c hits s.words ticks
+  first-for n ticks sent early so = first-of w (trace_at w t) s hits limit lag fresh spent named fits some bound own others n ticks sent early so
 
   pub trace-is : (n : ℕ) (ticks : List Pair) (sent : List (List Drive)) → PartRuns w (trace_at w t) s hits n ticks sent →
       trace_at w (t + n) ≡ record { shown = ticks ++ past; driven = sent ++ driven_at w t }
@@ -96,12 +105,12 @@ module _ (w : Scenario) (t : ℕ) (s : Sender) (hits : List Hit) (limit : ℕ) (
 
   -- ---- no block is taken, no burst ends, and no attempt ends
 
-  took-nothing : (x : Pair) (ticks : List Pair) (tick : ℕ) → RunsAlone w.lag c (x ∷ ticks) → length (x ∷ ticks) < limit → (place : ℕ) (station : StationData) →
+  took-nothing : (x : Pair) (ticks : List Pair) (tick : ℕ) → IsFirstOf w.lag c hits s.words (x ∷ ticks) → length (x ∷ ticks) < limit → (place : ℕ) (station : StationData) →
       IsPresentAt w place station → took_in w.lag w.plan w.loads w.outside w.absent ((x ∷ ticks) ++ past) tick station ≡ None
   took-nothing x ticks tick alone early place station at =
       ap (option_map (block_at tick (standing_of w station ((x ∷ ticks) ++ past)).channel station)) (takes x ticks alone early place station at)
 
-  pub leg-blocks : (ticks : List Pair) → RunsAlone w.lag c ticks → length ticks < limit → blocks_in w (ticks ++ past) ≡ blocks_in w past
+  pub leg-blocks : (ticks : List Pair) → IsFirstOf w.lag c hits s.words ticks → length ticks < limit → blocks_in w (ticks ++ past) ≡ blocks_in w past
   unfolding blocks_found
   leg-blocks [] alone early = refl
   leg-blocks (x ∷ ticks) alone early =
@@ -111,9 +120,9 @@ module _ (w : Scenario) (t : ℕ) (s : Sender) (hits : List Hit) (limit : ℕ) (
       none-each None_of (took_in w.lag w.plan w.loads w.outside w.absent ((x ∷ ticks) ++ past) tick) (present_stations w.lag w.plan w.loads w.outside w.absent)
       (each-present w past None_of (took-nothing x ticks tick alone early)) (λ st is. is) in
       ap (λ bs. blocks_in w (ticks ++ past) ++ bs) none ∙ append-nil (blocks_in w (ticks ++ past))
-      ∙ leg-blocks ticks (runs-less w.lag c x ticks alone) (omega (arith, early))
+      ∙ leg-blocks ticks (first-less w.lag c hits s.words x ticks alone) (omega (arith, early))
 
-  ended-nothing : (x : Pair) (ticks : List Pair) → RunsAlone w.lag c (x ∷ ticks) → length (x ∷ ticks) < limit → (place : ℕ) (station : StationData) →
+  ended-nothing : (x : Pair) (ticks : List Pair) → IsFirstOf w.lag c hits s.words (x ∷ ticks) → length (x ∷ ticks) < limit → (place : ℕ) (station : StationData) →
       IsPresentAt w place station →
       ended_by w.lag w.plan w.loads w.outside w.absent ((x ∷ ticks) ++ past) (length (ticks ++ past)) station ≡ []
   ended-nothing x ticks alone early place station at =
@@ -122,7 +131,7 @@ module _ (w : Scenario) (t : ℕ) (s : Sender) (hits : List Hit) (limit : ℕ) (
       ∙ no-attempt w station.terminal.address (length (ticks ++ past)) (length past) (course_of w station past).ended (omega (arith, long))
       (ended-before w.lag station (starts w.plan station) (so_far w.lag station (starts w.plan station) w.loads w.outside past).takes past)
 
-  pub leg-attempts : (ticks : List Pair) → RunsAlone w.lag c ticks → length ticks < limit → attempts_in w (ticks ++ past) ≡ attempts_in w past
+  pub leg-attempts : (ticks : List Pair) → IsFirstOf w.lag c hits s.words ticks → length ticks < limit → attempts_in w (ticks ++ past) ≡ attempts_in w past
   unfolding attempts
   leg-attempts [] alone early = refl
   leg-attempts (x ∷ ticks) alone early =
@@ -132,7 +141,7 @@ module _ (w : Scenario) (t : ℕ) (s : Sender) (hits : List Hit) (limit : ℕ) (
       none-of-each None_of (ended_by w.lag w.plan w.loads w.outside w.absent ((x ∷ ticks) ++ past) (length (ticks ++ past)))
       (present_stations w.lag w.plan w.loads w.outside w.absent) (each-present w past None_of (ended-nothing x ticks alone early)) (λ st is. is) in
       ap (λ xs. attempts_in w (ticks ++ past) ++ xs) none ∙ append-nil (attempts_in w (ticks ++ past))
-      ∙ leg-attempts ticks (runs-less w.lag c x ticks alone) (omega (arith, early))
+      ∙ leg-attempts ticks (first-less w.lag c hits s.words x ticks alone) (omega (arith, early))
 
   -- ---- each tick is in order
 
@@ -157,13 +166,12 @@ module _ (w : Scenario) (t : ℕ) (s : Sender) (hits : List Hit) (limit : ℕ) (
   pub goes-on : (m : ℕ) → m < limit → run_is_over w.lag w.plan w.loads w.outside w.absent (t + m) ≡ false
   goes-on m early =
       let so = sent-ticks m (omega (arith, early)) in
-      busy-goes-on w (t + m) (so.0 ++ past) (shown-is m so.0 so.1 so.2)
-      (busy so.0 (alone-for m so.0 so.1 early so.2) (omega (arith, early, so.2.many)))
+      goes so.0 (first-for m so.0 so.1 early so.2) (omega (arith, early, so.2.many)) (t + m) (shown-is m so.0 so.1 so.2)
 
   pub held-after : (m : ℕ) → m < limit → HoldsAlone w (shown_at w (t + m))
   held-after m early =
       let so = sent-ticks m (omega (arith, early)) in
-      subst (HoldsAlone w) (sym (shown-is m so.0 so.1 so.2)) (hands so.0 (alone-for m so.0 so.1 early so.2) (omega (arith, early, so.2.many)))
+      subst (HoldsAlone w) (sym (shown-is m so.0 so.1 so.2)) (hands so.0 (first-for m so.0 so.1 early so.2) (omega (arith, early, so.2.many)))
 
   at-tick : (m : ℕ) → suc m < limit → IsOrderly w (t + m)
   at-tick m early = record {
@@ -184,13 +192,13 @@ module _ (w : Scenario) (t : ℕ) (s : Sender) (hits : List Hit) (limit : ℕ) (
       Passage w t (t + n) record { blocks = []; bursts = []; attempts = []; commands = begun }
   leg-passes n early begun counted =
       let so = sent-ticks n (omega (arith, early)) in
-      let alone = alone-for n so.0 so.1 early so.2 in
+      let alone = first-for n so.0 so.1 early so.2 in
       let few : length so.0 < limit = omega (arith, early, so.2.many) in
       let same = shown-is n so.0 so.1 so.2 in
       record {
         later = omega arith;
         blocks_are = ap (λ p. blocks_in w p) same ∙ leg-blocks so.0 alone few ∙ sym (append-nil _);
-        bursts_are = ap (bursts w.lag) same ∙ leg-bursts w.lag c so.0 past (rests (other_of c)) alone.leg alone.quiet ∙ sym (append-nil _);
+        bursts_are = ap (bursts w.lag) same ∙ leg-bursts w.lag c so.0 past (rests (other_of c)) alone.alone.leg alone.alone.quiet ∙ sym (append-nil _);
         attempts_are = ap (λ p. attempts_in w p) same ∙ leg-attempts so.0 alone few ∙ sym (append-nil _);
         counted = ap (λ (tr : Trace). commands_in w tr.driven) (trace-is n so.0 so.1 so.2) ∙ counted so.0 so.1 so.2;
         orderly = at-any n early;

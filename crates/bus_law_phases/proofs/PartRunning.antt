@@ -1,4 +1,4 @@
--- A part of a message is sent, whatever its station makes of what it hears: tick by tick.
+-- A part of a message is sent tick by tick, where what each station does may depend on what was shown of it.
 use Rattle.std.proofs.Common.{◌≡◌, ◌≢◌, inl, inr, ℕ, zero, suc, ◌+◌, ◌*◌, ◌<◌, ◌≤◌, Bool, false, List, [], ◌∷◌, ◌++◌, length, Option, Some, None, refl, sym, ap, ◌∙◌, subst, arith}
 use Rattle.std.proofs.lemmas.Bool.{cases_eq}
 use Rattle.std.specs.Prelude.{slice_get, ◌==◌, ◌/◌, ◌%◌}
@@ -20,16 +20,16 @@ use Rattle.bus_model.specs.Strikes.{hits_on}
 use Rattle.bus_model.specs.Transmissions.{drives_on, drive_or, station_drive}
 use Rattle.bus_model.specs.Wire.{samples_on, shown}
 use Rattle.bus_model.specs.World.{Trace, drives_after, next_tick, ticks_on}
-use Rattle.bus_law_line.specs.Shown.{shown_of}
+use Rattle.bus_law_line.specs.Shown.{first_samples, shown_of}
 use Rattle.bus_law_line.specs.Senders.{Sender, IsSpent, IsUndriven, LeftAlone, SendsAlone, attempt_to_come, drives_command}
 use Rattle.bus_law_messages.proofs.Running.{quiet-pair}
 use Rattle.bus_law_parts.specs.Parts.{part_ticks, part_sample, HitsFit, IsFresh, SentPart}
 use Rattle.bus_law_parts.proofs.PartBursts.{leg-part}
 use Rattle.bus_law_parts.proofs.SentParts.{part-shown-now}
 use Rattle.bus_law_phases.specs.Scenarios.{Scenario}
-use Rattle.bus_law_phases.specs.PartRuns.{RunsAlone, PartRuns}
+use Rattle.bus_law_phases.specs.PartRuns.{RunsAlone, IsFirstOf, PartRuns}
 
-shown-pair : (faults : List Fault) (c : Channel) (driven : List (List Drive)) →
+pub shown-pair : (faults : List Fault) (c : Channel) (driven : List (List Drive)) →
     sample_on (shown faults driven) c ≡ shown_of (samples_on faults c driven)
 shown-pair faults A driven = refl
 shown-pair faults B driven = refl
@@ -41,11 +41,11 @@ other-word A part last position (Some word) = refl
 other-word B part last position None = refl
 other-word B part last position (Some word) = refl
 
-other-undriven : (c : Channel) (part : Part) (words : List Word) (i : ℕ) → drives_on (other_of c) (drive_sample c part words i) ≡ false
+pub other-undriven : (c : Channel) (part : Part) (words : List Word) (i : ℕ) → drives_on (other_of c) (drive_sample c part words i) ≡ false
 other-undriven c part words i = other-word c part (suc i == 40 * length words) (i % 40) (slice_get words (i / 40))
 
 -- what a channel shows of a tick more
-on-more : (d : Channel) (x : Pair) (ticks : List Pair) → on_channel d (x ∷ ticks) ≡ sample_on x d ∷ on_channel d ticks
+pub on-more : (d : Channel) (x : Pair) (ticks : List Pair) → on_channel d (x ∷ ticks) ≡ sample_on x d ∷ on_channel d ticks
 on-more A x ticks = refl
 on-more B x ticks = refl
 
@@ -54,10 +54,10 @@ module _ (w : Scenario) (before : Trace) (s : Sender) (hits : List Hit) (limit :
     (spent : (d : Channel) (station : ℕ) → IsSpent w.plan.faults d before.driven station)
     (named : hits_on w.plan.faults (attempt_to_come w.plan.faults s.part before.driven) s.part ≡ hits)
     (fits : HitsFit s.part hits s.words) (some : 0 < part_ticks hits s.words) (bound : limit ≤ part_ticks hits s.words + 4)
-    (own : (ticks : List Pair) → RunsAlone w.lag s.channel ticks → length ticks < limit →
+    (own : (ticks : List Pair) → IsFirstOf w.lag s.channel hits s.words ticks → length ticks < limit →
     slice_get (drives_after w.lag w.plan w.loads w.outside w.absent (ticks ++ before.shown)) s.station
     ≡ Some (drive_sample s.channel s.part s.words (length ticks)))
-    (others : (ticks : List Pair) → RunsAlone w.lag s.channel ticks → length ticks < limit → (other : ℕ) → other ≢ s.station →
+    (others : (ticks : List Pair) → IsFirstOf w.lag s.channel hits s.words ticks → length ticks < limit → (other : ℕ) → other ≢ s.station →
     station_drive other (drives_after w.lag w.plan w.loads w.outside w.absent (ticks ++ before.shown)) ≡ Silent) where
   abbrev c : Channel
   c = s.channel
@@ -75,14 +75,20 @@ module _ (w : Scenario) (before : Trace) (s : Sender) (hits : List Hit) (limit :
     quiet = so.quiet ∙ ap quiet_ticks (sym so.many);
   }
 
+  pub first-of : (n : ℕ) (ticks : List Pair) (sent : List (List Drive)) → n < limit → Runs n ticks sent → IsFirstOf w.lag c hits s.words ticks
+  first-of n ticks sent early so = record {
+    alone = runs-alone n ticks sent early so;
+    shown = so.shown ∙ ap (first_samples (part_sample hits s.words)) (sym so.many);
+  }
+
   own-next : (n : ℕ) (ticks : List Pair) (sent : List (List Drive)) → n < limit → Runs n ticks sent →
       slice_get (now ticks) s.station ≡ Some (drive_sample c s.part s.words n)
   own-next n ticks sent early so =
-      own ticks (runs-alone n ticks sent early so) (omega (arith, early, so.many)) ∙ ap (λ i. Some (drive_sample c s.part s.words i)) so.many
+      own ticks (first-of n ticks sent early so) (omega (arith, early, so.many)) ∙ ap (λ i. Some (drive_sample c s.part s.words i)) so.many
 
   others-next : (n : ℕ) (ticks : List Pair) (sent : List (List Drive)) → n < limit → Runs n ticks sent → (other : ℕ) → other ≢ s.station →
       station_drive other (now ticks) ≡ Silent
-  others-next n ticks sent early so = others ticks (runs-alone n ticks sent early so) (omega (arith, early, so.many))
+  others-next n ticks sent early so = others ticks (first-of n ticks sent early so) (omega (arith, early, so.many))
 
   sends-next : (n : ℕ) (ticks : List Pair) (sent : List (List Drive)) → n < limit → Runs n ticks sent → SendsAlone s (length sent) (now ticks)
   sends-next n ticks sent early so = record {

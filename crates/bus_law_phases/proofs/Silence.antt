@@ -39,7 +39,7 @@ use Rattle.bus_law_phases.proofs.Resting.{all-fewer, course-still, blocks-still,
 
 -- ---- a tick in which every station is silent begins no transmission
 
-with-silent : (faults : List Fault) (s tick : ℕ) (before now : List Drive) (ts : List Transmission) → ((i : ℕ) → station_drive i now ≡ Silent) →
+pub with-silent : (faults : List Fault) (s tick : ℕ) (before now : List Drive) (ts : List Transmission) → ((i : ℕ) → station_drive i now ≡ Silent) →
     with_drives faults s tick before now ts ≡ ts
 with-silent faults s tick before [] ts silent = refl
 with-silent faults s tick before (drive ∷ drives) ts silent =
@@ -47,7 +47,7 @@ with-silent faults s tick before (drive ∷ drives) ts silent =
 
 -- ---- the ticks
 
-quiet-shown : (faults : List Fault) (driven : List (List Drive)) → sample_on (shown faults driven) A ≡ Quiet → sample_on (shown faults driven) B ≡ Quiet →
+pub quiet-shown : (faults : List Fault) (driven : List (List Drive)) → sample_on (shown faults driven) A ≡ Quiet → sample_on (shown faults driven) B ≡ Quiet →
     shown faults driven ≡ quiet_pair
 quiet-shown faults driven a b =
     ap (λ x. record { a = x; b = shown_of (samples_on faults B driven) }) a ∙ ap (λ x. record { a = Quiet; b = x }) b
@@ -111,7 +111,7 @@ either-bound : (b : Bool) (q n : ℕ) → q ≤ n → (if b then suc q else 0) �
 either-bound true q n within = omega (arith, within)
 either-bound false q n within = omega arith
 
-quiet-within : (past : List Pair) → quiet_both past ≤ length past
+pub quiet-within : (past : List Pair) → quiet_both past ≤ length past
 quiet-within [] = omega arith
 quiet-within (x ∷ past) = either-bound _ (quiet_both past) (length past) (quiet-within past)
 
@@ -127,7 +127,7 @@ not-all p (y ∷ ys) zero x there fails =
     let same : y ≡ x = same_Some y x there in let no : p y ≡ false = ap p same ∙ fails in rw no refl
 not-all p (y ∷ ys) (suc i) x there fails = rw (not-all p ys i x there fails) (and-false (p y))
 
-drivers-few : (faults : List Fault) (c : Channel) (before driven : List (List Drive)) (m : ℕ) → length driven ≡ suc m → LeftAlone faults c before driven →
+pub drivers-few : (faults : List Fault) (c : Channel) (before driven : List (List Drive)) (m : ℕ) → length driven ≡ suc m → LeftAlone faults c before driven →
     drivers faults c (driven ++ before) ≤ 1
 drivers-few faults c before [] m many left = absurd (omega (arith, many))
 drivers-few faults c before (now ∷ silent) m many left = let none = left-undriven faults c before silent now left in omega (arith, none)

@@ -6,3 +6,6 @@ pub mod Moments
 pub mod PartRuns
 pub mod Rests
 pub mod Commands
+pub mod Closings
+pub mod Answers
+pub mod Mutes

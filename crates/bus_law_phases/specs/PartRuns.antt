@@ -24,6 +24,11 @@ pub record RunsAlone (k : ℕ) (c : Channel) (ticks : List Pair) : Type 0 where
   pub leg : InLeg k (on_channel c ticks)
   pub quiet : on_channel (other_of c) ticks ≡ quiet_ticks (length ticks)
 
+-- the first ticks of words that these hits strike, on one channel, the newest first, while the other one is quiet
+pub record IsFirstOf (k : ℕ) (c : Channel) (hits : List Hit) (words : List Word) (ticks : List Pair) : Type 0 where
+  pub alone : RunsAlone k c ticks
+  pub shown : on_channel c ticks ≡ first_samples (part_sample hits words) (length ticks)
+
 -- n ticks of a part, the newest first, after those before: a station sends it alone, and these hits strike it
 pub record PartRuns (w : Scenario) (before : Trace) (s : Sender) (hits : List Hit) (n : ℕ) (ticks : List Pair) (sent : List (List Drive)) : Type 0 where
   -- these are the ticks of the world

@@ -2,10 +2,26 @@
 //! contract of an empty function, at lag 3.
 #![tactic(auto)]
 
+pub mod answers;
+pub mod closings;
 pub mod commands;
 pub mod moments;
+pub mod mutes;
 pub mod passages;
+pub mod rests;
 
+pub use answers::{
+    a_station_that_rests_starts_nothing_beside_an_answer, a_station_that_waits_reads_the_answer,
+    an_answer_is_sent, an_answer_is_sent_to_a_station_that_might_abandon_it,
+    an_answer_that_might_be_abandoned_is_read, an_attempt_ends_with_its_answer,
+};
+pub use closings::{
+    a_closed_message_leaves_a_rest, a_message_ends_without_response,
+    a_message_keeps_items_until_it_is_closed, a_message_without_response_is_over,
+    a_rest_owes_nothing, promises_run_out,
+};
 pub use commands::a_command_passes;
 pub use moments::a_moment_lasts_in_silence;
+pub use mutes::{a_mute_answer_is_like_none, a_mute_answer_passes};
 pub use passages::{nothing_happens_in_silence, passages_follow_one_another};
+pub use rests::{a_moment_between_messages_lasts, the_world_begins_between_messages};
