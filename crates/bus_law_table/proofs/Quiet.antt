@@ -75,10 +75,10 @@ module _ (k : ℕ) (plan : PlanData) (loads : List TimedLoad) (outside : List Ou
 
 -- ---- no burst
 
-pairs-quiet : (d : Channel) (n : ℕ) → on_channel d (quiet_pairs n) ≡ quiet_ticks n
+pub pairs-quiet : (d : Channel) (n : ℕ) → on_channel d (quiet_pairs n) ≡ quiet_ticks n
 pairs-quiet d n = ap (on_channel d) (sym (append-nil (quiet_pairs n))) ∙ on-quiet d n [] ∙ append-nil (quiet_ticks n)
 
-pairs-many : (n : ℕ) → length (quiet_pairs n) ≡ n
+pub pairs-many : (n : ℕ) → length (quiet_pairs n) ≡ n
 pairs-many n = let both : length (quiet_pairs n ++ []) ≡ n + 0 = pairs-long n [] in ap length (sym (append-nil (quiet_pairs n))) ∙ omega (arith, both)
 
 pub quiet-bursts : (k n : ℕ) (past : List Pair) → ((d : Channel) → runs k (on_channel d past) ≡ false) → bursts k (quiet_pairs n ++ past) ≡ bursts k past

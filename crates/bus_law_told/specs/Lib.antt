@@ -1,0 +1,4 @@
+pub mod Plain
+pub mod Told
+pub mod Tables
+pub mod Holders
