@@ -1,0 +1,117 @@
+-- The log that is found in the world is that of its run by the message table.
+use Rattle.std.proofs.Common.{◌≡◌, ℕ, zero, suc, ◌+◌, ◌<◌, ◌≤◌, Bool, true, false, List, [], ◌∷◌, ◌++◌, length, map, refl, sym, ap, ◌∙◌, arith}
+use Rattle.std.proofs.lemmas.Bool.Decides.{nat_tests}
+use Rattle.std.specs.Prelude.{◌||◌, nat_lt, if◌then◌else◌, reverse, flat_map}
+use Rattle.bus_base.specs.declared.samples.Channel.{Channel}
+use Rattle.bus_base.specs.declared.samples.Channel.TheVariants.{A, B}
+use Rattle.bus_base.specs.declared.samples.Drive.{Drive}
+use Rattle.bus_line.specs.Channels.{bursts}
+use Rattle.bus_formats.specs.Logs.{LogData}
+use Rattle.bus_formats.specs.declared.fault.Fault.{Fault}
+use Rattle.bus_model.specs.Log.{terminals, terminal_end, blocks_of, log_of}
+use Rattle.bus_model.specs.Memory.{TimedLoad}
+use Rattle.bus_model.specs.Message.{Present}
+use Rattle.bus_model.specs.Run.{Run, run_end}
+use Rattle.bus_model.specs.Wire.{drivers}
+use Rattle.bus_model.specs.World.{ticks_on, drivers_in, is_clash, clashes}
+use Rattle.bus_model.specs.WorldLog.{attempts, log_found, presents}
+use Rattle.bus_law_listing.specs.Listing.{found_in_order}
+use Rattle.bus_law_listing.proofs.Found.{found-same, listed-bursts}
+use Rattle.bus_law_listing.proofs.Words.{listed-words}
+use Rattle.bus_law_messages.proofs.Sending.{shown-long}
+use Rattle.bus_law_table.specs.Happened.{burst_found, blocks_found}
+use Rattle.bus_law_table.specs.Stations.{loaded_at}
+use Rattle.bus_law_phases.specs.Scenarios.{Scenario, trace_at, shown_at, driven_at, attempts_in, blocks_in}
+use Rattle.bus_law_run.specs.RunStands.{RunStands}
+
+-- ---- no clash
+
+few-false : (n : ℕ) → n ≤ 1 → nat_lt 1 n ≡ false
+few-false n few = grind (arith, nat_tests, few)
+
+no-clash : (faults : List Fault) (driven : List (List Drive)) → ((c : Channel) → drivers faults c driven ≤ 1) → is_clash faults driven ≡ false
+no-clash faults driven few =
+    ap (λ b. b || nat_lt 1 (drivers faults B driven)) (few-false (drivers faults A driven) (few A)) ∙ few-false (drivers faults B driven) (few B)
+
+one-more : (b : Bool) (n : ℕ) → b ≡ false → n ≡ 0 → (if b then 1 else 0) + n ≡ 0
+one-more true n off none = absurd (cc)
+one-more false n off none = omega (arith, none)
+
+pub no-clashes : (w : Scenario) (t : ℕ) → ((i : ℕ) → i < t → (c : Channel) → drivers_in w.lag w.plan w.loads w.outside w.absent i c ≤ 1) →
+    clashes w.plan.faults (driven_at w t) ≡ 0
+unfolding ticks_on clashes
+no-clashes w zero alone = refl
+no-clashes w (suc t) alone =
+    one-more (is_clash w.plan.faults (driven_at w (suc t))) (clashes w.plan.faults (driven_at w t))
+    (no-clash w.plan.faults (driven_at w (suc t)) (λ c. alone t (omega arith) c))
+    (no-clashes w t (λ i before c. alone i (omega (arith, before)) c))
+
+-- ---- the stations
+
+-- no block was put up for sending
+unloaded : (loads : List TimedLoad) (tick : ℕ) (station : Present) → loads ≡ [] → loaded_at loads tick station ≡ station
+unloaded loads tick station none = ap (λ l. loaded_at l tick station) none
+
+all-unloaded : (loads : List TimedLoad) (tick : ℕ) (stations : List Present) → loads ≡ [] → map (loaded_at loads tick) stations ≡ stations
+all-unloaded loads tick [] none = refl
+all-unloaded loads tick (station ∷ stations) none =
+    ap (λ s. s ∷ map (loaded_at loads tick) stations) (unloaded loads tick station none)
+    ∙ ap (λ ss. station ∷ ss) (all-unloaded loads tick stations none)
+
+-- ---- what came to pass since the beginning
+
+module _ (w : Scenario) (t : ℕ) (run : Run) (stands : RunStands w t run) where
+  no-attempts : attempts_in w (shown_at w 0) ≡ []
+  unfolding ticks_on attempts
+  no-attempts = refl
+
+  pub attempts-are : attempts_in w (shown_at w t) ≡ reverse run.attempts
+  attempts-are = stands.passage.attempts_are ∙ ap (λ xs. xs ++ reverse run.attempts) no-attempts
+
+  no-bursts : bursts w.lag (shown_at w 0) ≡ []
+  unfolding ticks_on bursts
+  no-bursts = refl
+
+  pub bursts-are : bursts w.lag (shown_at w t) ≡ map burst_found (reverse run.bursts)
+  bursts-are = stands.passage.bursts_are ∙ ap (λ xs. xs ++ map burst_found (reverse run.bursts)) no-bursts
+
+  no-blocks : blocks_in w (shown_at w 0) ≡ []
+  unfolding ticks_on blocks_found
+  no-blocks = refl
+
+  pub blocks-are : blocks_in w (shown_at w t) ≡ reverse run.deliveries
+  blocks-are = stands.passage.blocks_are ∙ ap (λ xs. xs ++ reverse run.deliveries) no-blocks
+
+  pub found-are : bursts w.lag (shown_at w t) ≡ found_in_order (map burst_found (reverse run.bursts))
+  found-are = sym (found-same w.lag (shown_at w t)) ∙ ap found_in_order bursts-are
+
+  pub stations-are : w.loads ≡ [] → presents w.lag w.plan w.loads w.outside w.absent (shown_at w t) ≡ run.stations
+  stations-are none = stands.rested.are ∙ all-unloaded w.loads (length (shown_at w t)) run.stations none
+
+-- ---- the log
+
+same-log : (a b : LogData) → a.attempts ≡ b.attempts → a.words ≡ b.words → a.bursts ≡ b.bursts → a.terminals ≡ b.terminals → a.blocks ≡ b.blocks →
+    a.end ≡ b.end → a.clashes ≡ b.clashes → a ≡ b
+same-log a b one two three four five six seven =
+    ap (λ x. record a { attempts = x }) one
+    ∙ ap (λ x. record a { attempts = b.attempts; words = x }) two
+    ∙ ap (λ x. record a { attempts = b.attempts; words = b.words; bursts = x }) three
+    ∙ ap (λ x. record b { terminals = x; blocks = a.blocks; end = a.end; clashes = a.clashes }) four
+    ∙ ap (λ x. record b { blocks = x; end = a.end; clashes = a.clashes }) five
+    ∙ ap (λ x. record b { end = x; clashes = a.clashes }) six
+    ∙ ap (λ x. record b { clashes = x }) seven
+
+module _ (w : Scenario) (run : Run) (small : w.lag ≤ 39) (none : w.loads ≡ []) (stands : RunStands w (run_end run) run) where
+  abbrev end : ℕ
+  end = run_end run
+
+  pub log-found : log_found w.lag w.plan w.loads w.outside w.absent (trace_at w (run_end run)) ≡ log_of run
+  log-found =
+      let found = found-are w end run stands in
+      let stations = stations-are w end run stands none in
+      same-log (log_found w.lag w.plan w.loads w.outside w.absent (trace_at w end)) (log_of run)
+      (attempts-are w end run stands) (listed-words w.lag (shown_at w end) (reverse run.bursts) found small stands.rested.rests)
+      (listed-bursts w.lag (shown_at w end) (reverse run.bursts) found) (ap (λ xs. map terminal_end (terminals xs)) stations)
+      (ap (λ xs. flat_map blocks_of (terminals xs)) stations)
+      (ap (λ n. record { 0 = n }) (shown-long w.lag w.plan w.loads w.outside w.absent end))
+      (no-clashes w end (λ i before c. (stands.passage.orderly i (omega arith) before).alone c))

@@ -1,0 +1,134 @@
+-- The world of a plan does what its run says.
+use Rattle.std.proofs.Common.{◌≡◌, ◌⊎◌, inl, inr, true, Some, ℕ, suc, ◌*◌, ◌<◌, ◌≤◌, List, [], length, None, refl, sym, ap, ◌∙◌, subst, arith}
+use Rattle.std.proofs.lemmas.List.{length-map, length-reverse}
+use Rattle.std.specs.Prelude.{reverse, flat_map, slice_get}
+use Rattle.std.specs.List.{AllByRecursion as Each}
+use Rattle.bus_line.specs.Channels.{WholeBurst, valid, bursts}
+use Rattle.bus_line.specs.declared.cutter.TheConstants.{LAG}
+use Rattle.bus_formats.specs.Accepted.{IsAccepted}
+use Rattle.bus_formats.specs.Plans.{StationData, PlanData}
+use Rattle.bus_formats.specs.declared.log.Heard.{Heard}
+use Rattle.bus_model.specs.Log.{words_of, run_log}
+use Rattle.bus_model.specs.Run.{run_of, Run, next_item, most_attempts}
+use Rattle.bus_model.specs.Strikes.{ShownBurst, burst_ticks}
+use Rattle.bus_model.specs.World.{ticks_on}
+use Rattle.bus_model.specs.WorldLog.{world_log, heard_word}
+use Rattle.bus_law_listing.proofs.Words.{listed-words}
+use Rattle.bus_law_plans.specs.Bounds.{IsWithinBounds}
+use Rattle.bus_law_plans.specs.Sent.{IsDeliveredIn}
+use Rattle.bus_law_plans.proofs.AllDelivered.{all-delivered}
+use Rattle.bus_law_plans.proofs.Bounded.{each-reverse}
+use Rattle.bus_law_plans.proofs.EachRun.{run-within}
+use Rattle.bus_law_plans.proofs.Lists.{each-map}
+use Rattle.bus_law_table.specs.Happened.{block_at, burst_found}
+use Rattle.bus_law_phases.specs.Scenarios.{Scenario, shown_at, attempts_in, blocks_in}
+use Rattle.bus_law_told.specs.Plain.{IsPlain}
+use Rattle.bus_law_run.specs.RunStands.{RunStands}
+use Rattle.bus_law_run.specs.WholeRun.{IsPlainScenario}
+use Rattle.bus_law_run.specs.WorldIsRun.{plan_scenario, plan_run, plan_end, IsWithin, IsSentTo, block_after, WorldIsRun}
+use Rattle.bus_law_run.proofs.BlocksInWorld.{stays-or-so}
+use Rattle.bus_law_run.proofs.Fronts.{attempts-front, bursts-front, words-front, front-few, front-each, ordered-long}
+use Rattle.bus_law_run.proofs.LogFound.{attempts-are, bursts-are, blocks-are, found-are, log-found}
+use Rattle.bus_law_run.proofs.RunOver.{at-end, over-at-end}
+
+-- ---- how much there is at the end
+
+module _ (w : Scenario) (t most : ℕ) (run : Run) (small : w.lag ≤ 39) (stands : RunStands w t run) (bounds : IsWithinBounds w.plan most run) where
+  attempts-few : length (attempts_in w (shown_at w t)) ≤ most
+  attempts-few =
+      let long : length (attempts_in w (shown_at w t)) ≡ length run.attempts = ap length (attempts-are w t run stands) ∙ length-reverse run.attempts in
+      omega (arith, long, bounds.attempts)
+
+  bursts-few : length (bursts w.lag (shown_at w t)) ≤ 3 * most
+  bursts-few =
+      let long : length (bursts w.lag (shown_at w t)) ≡ length run.bursts =
+      ap length (bursts-are w t run stands) ∙ length-map (reverse run.bursts) burst_found ∙ length-reverse run.bursts in
+      omega (arith, long, bounds.bursts)
+
+  words-few : length (valid w.lag (shown_at w t)) ≤ 120 * most
+  words-few =
+      let words : List Heard = flat_map words_of (reverse run.bursts) in
+      let long : length (valid w.lag (shown_at w t)) ≡ length words =
+      sym (length-map (valid w.lag (shown_at w t)) heard_word)
+      ∙ ap length (listed-words w.lag (shown_at w t) (reverse run.bursts) (found-are w t run stands) small stands.rested.rests)
+      ∙ ordered-long (λ (h : Heard). h.tick.0) (λ (h : Heard). h.channel) words in
+      omega (arith, long, bounds.words)
+
+  all-short : Each (λ (whole : WholeBurst). whole.burst.ticks ≤ 1600) (bursts w.lag (shown_at w t))
+  all-short =
+      subst (Each (λ (whole : WholeBurst). whole.burst.ticks ≤ 1600)) (sym (bursts-are w t run stands))
+      (each-map (λ (whole : WholeBurst). whole.burst.ticks ≤ 1600) burst_found (reverse run.bursts)
+      (each-reverse (λ (burst : ShownBurst). burst_ticks burst ≤ 1600) run.bursts bounds.short))
+
+-- ---- the bus of a plan
+
+module _ (plan : PlanData) (accepted : IsAccepted plan) (plain : IsPlain plan)
+    (none : next_item (plan_run plan) ≡ None) where
+  abbrev w : Scenario
+  w = plan_scenario plan
+
+  abbrev end : ℕ
+  end = plan_end plan
+
+  is : IsPlainScenario w
+  is = record { lag = refl; accepted = accepted; plain = plain; present = refl; stays = λ other st at tick low. refl; blocks = tt }
+
+  stands : RunStands w end (plan_run plan)
+  stands = at-end w is none
+
+  bounds : IsWithinBounds plan (most_attempts plan) (plan_run plan)
+  bounds = run-within LAG plan [] (omega arith) accepted
+
+  within : (t : ℕ) → t ≤ end → IsWithin plan t
+  within t early =
+      let attempts = front-few (attempts_in w (shown_at w t)) (attempts_in w (shown_at w end)) (attempts-front w t end early) in
+      let shown = front-few (bursts w.lag (shown_at w t)) (bursts w.lag (shown_at w end)) (bursts-front w t end early) in
+      let words = front-few (valid w.lag (shown_at w t)) (valid w.lag (shown_at w end)) (words-front w t end early) in
+      record {
+        attempts_few = omega (arith, attempts, attempts-few w end (most_attempts plan) (plan_run plan) (omega arith) stands bounds);
+        bursts_few = omega (arith, shown, bursts-few w end (most_attempts plan) (plan_run plan) (omega arith) stands bounds);
+        words_few = omega (arith, words, words-few w end (most_attempts plan) (plan_run plan) (omega arith) stands bounds);
+        short = front-each (λ (whole : WholeBurst). whole.burst.ticks ≤ 1600) (bursts w.lag (shown_at w t)) (bursts w.lag (shown_at w end))
+            (bursts-front w t end early) (all-short w end (most_attempts plan) (plan_run plan) (omega arith) stands bounds);
+      }
+
+  log : world_log LAG plan end ≡ run_log LAG plan
+  unfolding world_log run_log
+  log = log-found w (plan_run plan) (omega arith) refl stands
+
+  -- ---- the receive blocks
+
+  all-sent : (plan_run plan).counted ≡ true → Each (IsDeliveredIn LAG [] plan (most_attempts plan)) (blocks_in w (shown_at w end))
+  unfolding run_of
+  all-sent counted =
+      subst (Each (IsDeliveredIn LAG [] plan (most_attempts plan))) (sym (blocks-are w end (plan_run plan) stands))
+      (each-reverse (IsDeliveredIn LAG [] plan (most_attempts plan)) (plan_run plan).deliveries
+      (all-delivered LAG plan [] (most_attempts plan) accepted counted))
+
+  whole : (plan_run plan).counted ≡ true → (t : ℕ) → t < end → (place : ℕ) (station : StationData) → slice_get plan.stations place ≡ Some station →
+      (sub : ℕ) → (block_after plan station (suc t) sub ≡ block_after plan station t sub) ⊎ IsSentTo plan station t sub (block_after plan station (suc t) sub)
+  unfolding ticks_on
+  whole counted t early place station there sub =
+      elim (stays-or-so w is end (λ i before. stands.passage.orderly i (omega arith) before) (IsDeliveredIn LAG [] plan (most_attempts plan)) (all-sent counted) t
+      early place station record { there = there; present = refl } _ refl sub) [
+        | inl same ↦ inl same
+        | inr new ↦ inr record {
+          block = block_at t new.1 station new.0;
+          address = refl;
+          tick = refl;
+          subaddress = new.3;
+          words_are = new.4;
+          sent = new.2;
+        }
+      ]
+
+  pub world-is-run : WorldIsRun plan
+  world-is-run = record {
+    log = log;
+    over = over-at-end w is none;
+    orderly = λ t before. stands.passage.orderly t (omega arith) before;
+    blocks = blocks-are w end (plan_run plan) stands;
+    whole = whole;
+    ends = bounds.ticks;
+    within = within;
+  }

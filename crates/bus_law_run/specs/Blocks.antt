@@ -1,0 +1,27 @@
+-- What becomes of a terminal's receive blocks in a tick (data reception, MIL-STD-1553B 4.4.3.5, 4.4.3.6).
+use Rattle.std.specs.Prelude.{not, ◌≡◌, ◌⊎◌, ℕ, Bool, if◌then◌else◌, List, ◌∷◌, length, Option, Some}
+use Rattle.bus_base.specs.declared.samples.Pair.{Pair}
+use Rattle.bus_formats.specs.Plans.{StationData}
+use Rattle.bus_model.specs.Memory.{TimedLoad}
+use Rattle.bus_model.specs.Hearing.{Moment}
+use Rattle.bus_model.specs.Orders.{Taken}
+use Rattle.bus_model.specs.Terminal.{took_now}
+use Rattle.bus_model.specs.Control.{OutsideTake, moment_of, unheard, hear_more, yielded_in, course_after, hearing_after, holds_control}
+
+-- the block on a subaddress stays, or becomes the block that was taken there, whole
+abbrev pub StaysOrTaken : Option Taken → ℕ → List ℕ → List ℕ → Type 0
+StaysOrTaken taken sub before after =
+    (after ≡ before) ⊎ ((block : Taken) × (taken ≡ Some block) × (block.sub ≡ sub) × (after ≡ block.words))
+
+module _ (k : ℕ) (station : StationData) (starts : Bool) (loads : List TimedLoad) (outside : List OutsideTake) where
+  -- what a station's terminal hears in the newest tick: all of it while it serves; while it holds control nothing, but the tick in which it yields
+  abbrev pub heard_newest : Pair → List Pair → Moment
+  heard_newest shown past =
+      if not (holds_control k station starts loads outside past) then moment_of shown (course_after k station starts loads outside past)
+      else if yielded_in (length past) (course_after k station starts loads outside (shown ∷ past)).ended
+      then moment_of shown (course_after k station starts loads outside (shown ∷ past)) else unheard
+
+  -- the block that it takes whole in that tick
+  abbrev pub taken_newest : Pair → List Pair → Option Taken
+  taken_newest shown past =
+      took_now k station.terminal loads (hear_more (hearing_after k station starts loads outside past) (heard_newest shown past))
