@@ -1,13 +1,11 @@
 -- In the world of a run without offers each receive block stays, or becomes one that was sent, whole.
-use Rattle.std.proofs.Common.{◌≡◌, ◌⊎◌, inl, inr, ℕ, suc, ◌<◌, ◌≤◌, false, List, [], ◌∷◌, ◌++◌, length, Option, Some, None, sym, ap, ◌∙◌, subst, arith}
-use Rattle.std.proofs.lemmas.Bool.{cases_eq, true≢false, eq-eqb}
-use Rattle.std.proofs.lemmas.Option.{same_Some}
-use Rattle.std.specs.Prelude.{filter_map, slice_get, option_map}
+use Rattle.std.proofs.Common.{◌≡◌, ◌⊎◌, inl, inr, ℕ, suc, ◌<◌, List, [], ◌∷◌, ◌++◌, length, Option, Some, None, ap, ◌∙◌, subst, arith}
+use Rattle.std.specs.Prelude.{filter_map, option_map}
 use Rattle.std.specs.List.{AllByRecursion as Each, cons_option}
 use Rattle.bus_base.specs.declared.samples.Channel.{Channel}
 use Rattle.bus_base.specs.declared.samples.Pair.{Pair}
 use Rattle.bus_formats.specs.Plans.{StationData}
-use Rattle.bus_model.specs.Control.{hear_more, keeps}
+use Rattle.bus_model.specs.Control.{keeps}
 use Rattle.bus_model.specs.Memory.{received_on}
 use Rattle.bus_model.specs.Message.{Delivered}
 use Rattle.bus_model.specs.Orders.{Taken}
@@ -15,19 +13,15 @@ use Rattle.bus_model.specs.Starts.{starts}
 use Rattle.bus_model.specs.Terminal.{took_now}
 use Rattle.bus_model.specs.World.{is_present}
 use Rattle.bus_model.specs.WorldLog.{present_stations}
-use Rattle.bus_law_messages.proofs.Sending.{shown-long}
 use Rattle.bus_law_table.specs.Happened.{block_at, took_in, blocks_in as blocks_now, blocks_found}
 use Rattle.bus_law_table.proofs.Pairing.{Has, has-filter}
 use Rattle.bus_law_phases.specs.Passages.{IsOrderly}
-use Rattle.bus_law_phases.specs.Scenarios.{Scenario, IsPresentAt, shown_at, blocks_in, course_of, hearing_of, standing_of}
-use Rattle.bus_law_run.specs.Blocks.{heard_newest, taken_newest}
-use Rattle.bus_law_run.specs.Hands.{HoldsAt}
+use Rattle.bus_law_phases.specs.Scenarios.{Scenario, IsPresentAt, shown_at, blocks_in, standing_of}
+use Rattle.bus_law_run.specs.Blocks.{taken_newest}
 use Rattle.bus_law_run.specs.WholeRun.{IsPlainScenario}
 use Rattle.bus_law_run.proofs.BlocksKept.{station-blocks}
-use Rattle.bus_law_run.proofs.FirstStands.{found, at}
+use Rattle.bus_law_run.proofs.HeardInWorld.{long, heard}
 use Rattle.bus_law_run.proofs.Fronts.{blocks-front, front-each}
-use Rattle.bus_law_run.proofs.OneHand.{in-one-hand}
-use Rattle.bus_law_run.proofs.TickHeard.{tick-heard}
 
 -- ---- what holds of each item found
 
@@ -51,40 +45,10 @@ each-right P (x ∷ firsts) more all = each-right P firsts more all.1
 
 module _ (w : Scenario) (is : IsPlainScenario w) (end : ℕ) (orderly : (i : ℕ) → i < end → IsOrderly w i) (P : Delivered → Type 0)
     (all : Each P (blocks_in w (shown_at w end))) (t : ℕ) (early : t < end) (other : ℕ) (station : StationData) (here : IsPresentAt w other station) where
-  abbrev holder : StationData
-  holder = (found w is.accepted is.present).1
-
-  abbrev place : ℕ
-  place = (found w is.accepted is.present).0
-
-  hand : (u : ℕ) → u ≤ end → HoldsAt w u place holder
-  hand u low =
-      in-one-hand w is place holder (at w is.accepted is.present) (eq-eqb holder.terminal.address w.plan.start (found w is.accepted is.present).3) u
-      (λ i before. orderly i (omega (arith, before, low)))
-
-  -- who doesn't hold control doesn't then
-  serves-on : (course_of w station (shown_at w t)).holds ≡ false → (course_of w station (shown_at w (suc t))).holds ≡ false
-  serves-on off = elim (cases_eq other place) [
-    | inl same ↦ (let there : slice_get w.plan.stations place ≡ Some station = ap (slice_get w.plan.stations) (sym same) ∙ here.there in
-        let own : holder ≡ station = same_Some holder station (sym (found w is.accepted is.present).2 ∙ there) in
-        absurd (true≢false (sym ((hand t (omega (arith, early))).holds) ∙ ap (λ s. (course_of w s (shown_at w t)).holds) own ∙ off)))
-    | inr apart ↦ (hand (suc t) (omega (arith, early))).others other station here apart
-  ]
-
-  long : length (shown_at w t) ≡ t
-  long = shown-long w.lag w.plan w.loads w.outside w.absent t
-
   -- the newest tick
   module _ (shown : Pair) (newest : shown_at w (suc t) ≡ shown ∷ shown_at w t) where
     abbrev past : List Pair
     past = shown_at w t
-
-    heard : hearing_of w station (shown ∷ past)
-        ≡ hear_more (hearing_of w station past) (heard_newest w.lag station (starts w.plan station) w.loads w.outside shown past)
-    heard =
-        tick-heard w.lag station (starts w.plan station) w.loads w.outside shown past
-        (is.stays other station here (length past) (omega arith))
-        (λ off. ap (λ p. (course_of w station p).holds) (sym newest) ∙ serves-on off)
 
     took : (block : Taken) → taken_newest w.lag station (starts w.plan station) w.loads w.outside shown past ≡ Some block →
         P (block_at t (standing_of w station (shown ∷ past)).channel station block)
@@ -92,10 +56,10 @@ module _ (w : Scenario) (is : IsPlainScenario w) (end : ℕ) (orderly : (i : ℕ
     took block taken =
         let c : Channel = (standing_of w station (shown ∷ past)).channel in
         let now : took_in w.lag w.plan w.loads w.outside w.absent (shown ∷ past) t station ≡ Some (block_at t c station block) =
-        ap (option_map (block_at t c station)) (ap (took_now w.lag station.terminal w.loads) heard ∙ taken) in
+        ap (option_map (block_at t c station)) (ap (took_now w.lag station.terminal w.loads) (heard w is end orderly t early other station here shown newest) ∙ taken) in
         each-mapped P (took_in w.lag w.plan w.loads w.outside w.absent (shown ∷ past) t) (present_stations w.lag w.plan w.loads w.outside w.absent)
         station (block_at t c station block) (has-filter (is_present w.absent) w.plan.stations other station here.there here.present) now
-        (subst (λ n. Each P (blocks_now w.lag w.plan w.loads w.outside w.absent (shown ∷ past) n)) long
+        (subst (λ n. Each P (blocks_now w.lag w.plan w.loads w.outside w.absent (shown ∷ past) n)) (long w is end orderly t early other station here)
         (each-right P (blocks_in w past) (blocks_now w.lag w.plan w.loads w.outside w.absent (shown ∷ past) (length past))
         (subst (λ p. Each P (blocks_in w p)) newest (front-each P (blocks_in w (shown_at w (suc t))) (blocks_in w (shown_at w end))
         (blocks-front w (suc t) end (omega (arith, early))) all))))

@@ -25,7 +25,7 @@ station-at (s ∷ stations) address (suc k) few is =
     let later = station-at stations address k (omega (arith, few)) is in (suc later.0, later.1, later.2, later.3)
 
 -- every station is present
-all-present : (stations : List StationData) → filter (is_present []) stations ≡ stations
+pub all-present : (stations : List StationData) → filter (is_present []) stations ≡ stations
 all-present [] = refl
 all-present (station ∷ stations) = ap (λ xs. station ∷ xs) (all-present stations)
 

@@ -15,4 +15,8 @@ pub mod PlainEndings
 pub mod PlainCourses
 pub mod OneHand
 pub mod TickHeard
+pub mod HeardInWorld
 pub mod BlocksInWorld
+pub mod DeliveriesFound
+pub mod HeardSince
+pub mod BurstsTaken

@@ -1,17 +1,19 @@
 -- The world of a plan does what its run says.
 use Rattle.std.proofs.Common.{◌≡◌, ◌⊎◌, inl, inr, true, Some, ℕ, suc, ◌*◌, ◌<◌, ◌≤◌, List, [], length, None, refl, sym, ap, ◌∙◌, subst, arith}
 use Rattle.std.proofs.lemmas.List.{length-map, length-reverse}
-use Rattle.std.specs.Prelude.{reverse, flat_map, slice_get}
+use Rattle.std.specs.Prelude.{◌==◌, if◌then◌else◌, reverse, filter_map, flat_map, slice_get}
 use Rattle.std.specs.List.{AllByRecursion as Each}
 use Rattle.bus_line.specs.Channels.{WholeBurst, valid, bursts}
 use Rattle.bus_line.specs.declared.cutter.TheConstants.{LAG}
 use Rattle.bus_formats.specs.Accepted.{IsAccepted}
 use Rattle.bus_formats.specs.Plans.{StationData, PlanData}
 use Rattle.bus_formats.specs.declared.log.Heard.{Heard}
-use Rattle.bus_model.specs.Log.{words_of, run_log}
+use Rattle.bus_model.specs.Log.{delivered_to, words_of, run_log}
+use Rattle.bus_model.specs.Message.{Delivered}
+use Rattle.bus_model.specs.Starts.{starts}
 use Rattle.bus_model.specs.Run.{run_of, Run, next_item, most_attempts}
 use Rattle.bus_model.specs.Strikes.{ShownBurst, burst_ticks}
-use Rattle.bus_model.specs.World.{ticks_on}
+use Rattle.bus_model.specs.World.{world, ticks_on}
 use Rattle.bus_model.specs.WorldLog.{world_log, heard_word}
 use Rattle.bus_law_listing.proofs.Words.{listed-words}
 use Rattle.bus_law_plans.specs.Bounds.{IsWithinBounds}
@@ -23,10 +25,12 @@ use Rattle.bus_law_plans.proofs.Lists.{each-map}
 use Rattle.bus_law_table.specs.Happened.{block_at, burst_found}
 use Rattle.bus_law_phases.specs.Scenarios.{Scenario, shown_at, attempts_in, blocks_in}
 use Rattle.bus_law_told.specs.Plain.{IsPlain}
+use Rattle.bus_law_run.specs.Blocks.{deliveries_of}
 use Rattle.bus_law_run.specs.RunStands.{RunStands}
 use Rattle.bus_law_run.specs.WholeRun.{IsPlainScenario}
 use Rattle.bus_law_run.specs.WorldIsRun.{plan_scenario, plan_run, plan_end, IsWithin, IsSentTo, block_after, WorldIsRun}
 use Rattle.bus_law_run.proofs.BlocksInWorld.{stays-or-so}
+use Rattle.bus_law_run.proofs.DeliveriesFound.{deliveries-found}
 use Rattle.bus_law_run.proofs.Fronts.{attempts-front, bursts-front, words-front, front-few, front-each, ordered-long}
 use Rattle.bus_law_run.proofs.LogFound.{attempts-are, bursts-are, blocks-are, found-are, log-found}
 use Rattle.bus_law_run.proofs.RunOver.{at-end, over-at-end}
@@ -122,12 +126,21 @@ module _ (plan : PlanData) (accepted : IsAccepted plan) (plain : IsPlain plan)
         }
       ]
 
+  deliveries : (place : ℕ) (station : StationData) → slice_get plan.stations place ≡ Some station →
+      deliveries_of LAG station (starts plan station) [] [] (world LAG plan [] [] [] end) ≡ delivered_to station.terminal.address (plan_run plan)
+  deliveries place station there =
+      sym (deliveries-found w is end (λ i before. stands.passage.orderly i (omega arith) before) place station record { there = there; present = refl } end
+      (omega arith))
+      ∙ ap (λ ds. filter_map (λ (d : Delivered). if d.address == station.terminal.address then Some d.delivery else None) ds)
+      (blocks-are w end (plan_run plan) stands)
+
   pub world-is-run : WorldIsRun plan
   world-is-run = record {
     log = log;
     over = over-at-end w is none;
     orderly = λ t before. stands.passage.orderly t (omega arith) before;
     blocks = blocks-are w end (plan_run plan) stands;
+    deliveries = deliveries;
     whole = whole;
     ends = bounds.ticks;
     within = within;

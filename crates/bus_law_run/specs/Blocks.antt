@@ -1,12 +1,14 @@
 -- What becomes of a terminal's receive blocks in a tick (data reception, MIL-STD-1553B 4.4.3.5, 4.4.3.6).
-use Rattle.std.specs.Prelude.{not, ◌≡◌, ◌⊎◌, ℕ, Bool, if◌then◌else◌, List, ◌∷◌, length, Option, Some}
+use Rattle.std.specs.Prelude.{◌≡◌, ◌⊎◌, ℕ, Bool, not, if◌then◌else◌, List, [], ◌∷◌, ◌++◌, length, Option, Some, option_map, option_to_list}
 use Rattle.bus_base.specs.declared.samples.Pair.{Pair}
 use Rattle.bus_formats.specs.Plans.{StationData}
+use Rattle.bus_formats.specs.declared.log.Delivery.{Delivery}
 use Rattle.bus_model.specs.Memory.{TimedLoad}
 use Rattle.bus_model.specs.Hearing.{Moment}
 use Rattle.bus_model.specs.Orders.{Taken}
-use Rattle.bus_model.specs.Terminal.{took_now}
+use Rattle.bus_model.specs.Terminal.{standing_after, took_now}
 use Rattle.bus_model.specs.Control.{OutsideTake, moment_of, unheard, hear_more, yielded_in, course_after, hearing_after, holds_control}
+use Rattle.bus_law_table.specs.Happened.{block_at}
 
 -- the block on a subaddress stays, or becomes the block that was taken there, whole
 abbrev pub StaysOrTaken : Option Taken → ℕ → List ℕ → List ℕ → Type 0
@@ -25,3 +27,14 @@ module _ (k : ℕ) (station : StationData) (starts : Bool) (loads : List TimedLo
   abbrev pub taken_newest : Pair → List Pair → Option Taken
   taken_newest shown past =
       took_now k station.terminal loads (hear_more (hearing_after k station starts loads outside past) (heard_newest shown past))
+
+  -- .. as a delivery: in that tick, on the channel of what the terminal handled
+  abbrev pub delivery_newest : Pair → List Pair → Option Delivery
+  delivery_newest shown past =
+      option_map (λ taken. (block_at (length past) (standing_after k station.terminal loads
+      (hear_more (hearing_after k station starts loads outside past) (heard_newest shown past))).channel station taken).delivery) (taken_newest shown past)
+
+  -- all blocks that it took whole, in order
+  unfoldable pub deliveries_of : List Pair → List Delivery
+  deliveries_of [] = []
+  deliveries_of (shown ∷ past) = deliveries_of past ++ option_to_list (delivery_newest shown past)

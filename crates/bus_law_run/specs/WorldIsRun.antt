@@ -5,7 +5,7 @@ use Rattle.bus_line.specs.Channels.{valid, bursts}
 use Rattle.bus_line.specs.declared.cutter.TheConstants.{LAG}
 use Rattle.bus_formats.specs.Plans.{StationData, PlanData}
 use Rattle.bus_model.specs.Control.{keeps}
-use Rattle.bus_model.specs.Log.{run_log}
+use Rattle.bus_model.specs.Log.{delivered_to, run_log}
 use Rattle.bus_model.specs.Memory.{received_on}
 use Rattle.bus_model.specs.Message.{Delivered}
 use Rattle.bus_model.specs.Run.{Run, most_attempts, run_of, run_end}
@@ -17,6 +17,7 @@ use Rattle.bus_law_plans.specs.Sent.{IsDeliveredIn}
 use Rattle.bus_law_table.specs.Happened.{blocks_found}
 use Rattle.bus_law_phases.specs.Passages.{IsOrderly}
 use Rattle.bus_law_phases.specs.Scenarios.{Scenario}
+use Rattle.bus_law_run.specs.Blocks.{deliveries_of}
 
 -- the bus of a plan: every station is present, and nothing is put up for sending or taken from outside
 abbrev pub plan_scenario : PlanData → Scenario
@@ -60,6 +61,9 @@ pub record WorldIsRun (plan : PlanData) : Type 0 where
   pub orderly : (t : ℕ) → t < plan_end plan → IsOrderly (plan_scenario plan) t
   -- the blocks that terminals took are the table's, in the order of time
   pub blocks : blocks_found LAG plan [] [] [] (world LAG plan [] [] [] (plan_end plan)) ≡ reverse (plan_run plan).deliveries
+  -- and each terminal took those that the table delivers to it
+  pub deliveries : (place : ℕ) (station : StationData) → slice_get plan.stations place ≡ Some station →
+      deliveries_of LAG station (starts plan station) [] [] (world LAG plan [] [] [] (plan_end plan)) ≡ delivered_to station.terminal.address (plan_run plan)
   -- where no fault deceives the count of an answer's words, each receive block of each terminal stays in each tick, or becomes one that was sent, whole
   pub whole : (plan_run plan).counted ≡ true → (t : ℕ) → t < plan_end plan → (place : ℕ) (station : StationData) →
       slice_get plan.stations place ≡ Some station → (sub : ℕ) →

@@ -8,7 +8,7 @@ pub mod logs;
 pub mod runs;
 pub mod whole;
 
-pub use blocks::a_block_changes_whole;
+pub use blocks::{a_block_changes_whole, a_block_is_taken_where_a_burst_ends};
 pub use control::{control_is_kept_where_none_is_offered, control_stays_in_one_hand};
 pub use logs::the_world_logs_its_run;
 pub use runs::{
