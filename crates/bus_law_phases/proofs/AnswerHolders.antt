@@ -26,7 +26,7 @@ use Rattle.bus_law_stations.specs.Messages.{ShowsBurst}
 use Rattle.bus_law_stations.specs.Silence.{AreTaken, AwaitsFirst, AwaitsSecond}
 use Rattle.bus_law_stations.proofs.StillStation.{always-taken}
 use Rattle.bus_law_stations.proofs.StillController.{Awaits}
-use Rattle.bus_law_phases.specs.Answers.{ShowsWhole, HoldsBeside, AwaitsAnswer, RestsBeside, attempts_ended}
+use Rattle.bus_law_phases.specs.Answers.{ShowsWhole, HoldsBeside, WaitsToRead, RestsBeside, attempts_ended}
 use Rattle.bus_law_phases.specs.Commands.{attempt_recorded}
 use Rattle.bus_law_phases.specs.PartRuns.{RunsAlone}
 use Rattle.bus_law_phases.specs.Scenarios.{Scenario, course_of}
@@ -36,7 +36,7 @@ use Rattle.bus_law_phases.proofs.Resting.{no-attempt}
 
 -- ---- it waits for the answer
 
-module _ (w : Scenario) (past : List Pair) (holder : StationData) (begun : Begun) (e : ℕ) (awaits : AwaitsAnswer w past holder begun e)
+module _ (w : Scenario) (past : List Pair) (holder : StationData) (begun : Begun) (e : ℕ) (awaits : WaitsToRead w past holder begun e)
     (waits : Awaits w.lag begun (on_channel begun.state.channel past) e) where
   abbrev c : Channel
   c = begun.state.channel
@@ -77,7 +77,7 @@ module _ (w : Scenario) (past : List Pair) (holder : StationData) (begun : Begun
   closes-beside burst ending keeps ends =
       waits-beside burst (closed ending (end_of burst + w.lag)) (ap not keeps) (λ x ticks whole. ends x ticks whole ∙ ap (closed ending) whole.known)
 
-module _ (w : Scenario) (past : List Pair) (holder : StationData) (begun : Begun) (e : ℕ) (awaits : AwaitsAnswer w past holder begun e) (burst : Burst) where
+module _ (w : Scenario) (past : List Pair) (holder : StationData) (begun : Begun) (e : ℕ) (awaits : WaitsToRead w past holder begun e) (burst : Burst) where
   abbrev channel : Channel
   channel = begun.state.channel
 

@@ -105,7 +105,7 @@ pub record MayAbandon (w : Scenario) (past : List Pair) (holder : StationData) (
   pub rests : runs w.lag (on_channel begun.state.channel past) ≡ false
 
 -- it waits for an answer to its message: the burst that is answered ended in tick e, and the answer begins in time
-pub record AwaitsAnswer (w : Scenario) (past : List Pair) (holder : StationData) (begun : Begun) (e : ℕ) : Type 0 where
+pub record WaitsToRead (w : Scenario) (past : List Pair) (holder : StationData) (begun : Begun) (e : ℕ) : Type 0 where
   pub holds : (course_of w holder past).holds ≡ true
   pub answered : IsAnswered begun (course_of w holder past) past e
   pub rests : runs w.lag (on_channel begun.state.channel past) ≡ false

@@ -22,7 +22,7 @@ ghost use Rattle.bus_model.specs.Message.{After};
 ghost use Rattle.bus_model.specs.Strikes.{ShownBurst, burst_end, ShownAnswer};
 ghost use Rattle.bus_law_stations.specs.Silence.{AwaitsFirst, AwaitsSecond};
 ghost use Rattle.bus_law_phases.specs.Scenarios.{Scenario, shown_at, course_of, NoneTakesFrom};
-ghost use Rattle.bus_law_phases.specs.Answers.{AnswerBegins, burst_read, ShowsWhole, HoldsBeside, AwaitsAnswer, RestsBeside, attempts_ended, AnswerOver, HoldsBesideShown, BeginsAt, MayAbandon};
+ghost use Rattle.bus_law_phases.specs.Answers.{AnswerBegins, burst_read, ShowsWhole, HoldsBeside, WaitsToRead, RestsBeside, attempts_ended, AnswerOver, HoldsBesideShown, BeginsAt, MayAbandon};
 ghost use Rattle.bus_law_phases.specs.Commands.{attempt_recorded};
 
 /// From the tick in which the answer to a burst begins, of which something is shown, to that in which its end is known: every station is what the
@@ -40,19 +40,19 @@ pub fn an_answer_is_sent()
 /// away. At every lag below the wait for an answer.
 pub fn a_station_that_waits_reads_the_answer()
     ensures first { (w : Scenario) (past : List Pair) (holder : StationData) (begun : Begun) (e : ℕ) (burst : Burst) (ending : Ended) →
-        AwaitsAnswer w past holder begun e → AwaitsFirst w.lag begun (on_channel begun.state.channel past) e →
+        WaitsToRead w past holder begun e → AwaitsFirst w.lag begun (on_channel begun.state.channel past) e →
         ((shown : List Pair) (heard : List Sample) →
         first_read w.lag begun.entry.item shown heard burst (read_answer begun.entry.item.kind First burst.slots (rest_of burst)) ≡ Some ending) →
         gives ending.outcome ≡ false →
         HoldsBeside w past holder begun.state.channel burst (close (course_of w holder past) begun ending (end_of burst + w.lag)) }
     ensures relayed { (w : Scenario) (past : List Pair) (holder : StationData) (begun : Begun) (e : ℕ) (burst : Burst) (shape : Shape) (status : ℕ) →
-        AwaitsAnswer w past holder begun e → w.lag < 24 → AwaitsFirst w.lag begun (on_channel begun.state.channel past) e →
+        WaitsToRead w past holder begun e → w.lag < 24 → AwaitsFirst w.lag begun (on_channel begun.state.channel past) e →
         read_answer begun.entry.item.kind First burst.slots (rest_of burst) ≡ Good status → (answers_of begun.entry.item.kind).second ≡ Some shape →
         HoldsBeside w past holder begun.state.channel burst (course_of w holder past)
         × ((x : Pair) (ticks : List Pair) → ShowsWhole w.lag begun.state.channel burst past x ticks →
         (v : AwaitsSecond w.lag begun (on_channel begun.state.channel (x ∷ (ticks ++ past))) (end_of burst)) × (v.status ≡ status)) }
     ensures second { (w : Scenario) (past : List Pair) (holder : StationData) (begun : Begun) (e : ℕ) (burst : Burst) (ending : Ended) →
-        AwaitsAnswer w past holder begun e → (waits : AwaitsSecond w.lag begun (on_channel begun.state.channel past) e) →
+        WaitsToRead w past holder begun e → (waits : AwaitsSecond w.lag begun (on_channel begun.state.channel past) e) →
         ((shown : List Pair) (heard : List Sample) →
         second_read w.lag begun.entry.item shown heard waits.status (read_answer begun.entry.item.kind Second burst.slots (rest_of burst)) ≡ Some ending) →
         gives ending.outcome ≡ false →

@@ -24,7 +24,7 @@ use Rattle.bus_law_table.specs.Stations.{loaded_at, ArePresent}
 use Rattle.bus_law_table.proofs.Pairing.{beside, each-other}
 use Rattle.bus_law_table.proofs.Pairing.{Each as Every}
 use Rattle.bus_law_phases.proofs.Pairs.{each-of}
-use Rattle.bus_law_told.specs.Tables.{IsShownTo, IsRanged, IsMute, command_shown, ordered, first_shown, settled, second_shown}
+use Rattle.bus_law_told.specs.Tables.{IsShownTo, IsRanged, HasNoWordLeft, command_shown, ordered, first_shown, settled, second_shown}
 use Rattle.bus_law_told.proofs.TablesDue.{first-due, second-due, shown-to}
 
 -- ---- stations of a plan
@@ -78,6 +78,6 @@ mute-by hits a [] same is = same
 mute-by hits a (slot ∷ slots) same is = absurd (none-some _ (sym is))
 
 -- nobody answers, or the answer is struck so that no word of it is shown
-pub silent-or-mute : (hits : List Hit) (answer : Option Answer) → shown_answer hits answer ≡ None → (answer ≡ None) ⊎ IsMute hits answer
+pub silent-or-mute : (hits : List Hit) (answer : Option Answer) → shown_answer hits answer ≡ None → (answer ≡ None) ⊎ HasNoWordLeft hits answer
 silent-or-mute hits None is = inl refl
 silent-or-mute hits (Some a) is = inr (a, refl, mute-by hits a (struck hits a.words) refl is)

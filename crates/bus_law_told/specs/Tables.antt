@@ -128,5 +128,5 @@ abbrev pub IsRanged : Present → Type 0
 IsRanged station = HasTerminalRanges station.plan.terminal × HasWordRanges station
 
 -- there is an answer, but it is struck so that no word of it is shown
-abbrev pub IsMute : List Hit → Option Answer → Type 0
-IsMute hits answer = (a : Answer) × (answer ≡ Some a) × (struck hits a.words ≡ [])
+abbrev pub HasNoWordLeft : List Hit → Option Answer → Type 0
+HasNoWordLeft hits answer = (a : Answer) × (answer ≡ Some a) × (struck hits a.words ≡ [])

@@ -21,7 +21,7 @@ ghost use Rattle.bus_law_duties.specs.Duties.{AreFree};
 ghost use Rattle.bus_law_duties.specs.Ranges.{HasTimedLoadRanges};
 ghost use Rattle.bus_law_plans.specs.Memories.{AreBlocks, HasWordRanges};
 ghost use Rattle.bus_law_table.specs.Stations.{ArePresent};
-ghost use Rattle.bus_law_told.specs.Tables.{IsToldByAnswers, IsAnswerTo, IsShownTo, IsRanged, IsMute, command_shown, first_shown, second_shown};
+ghost use Rattle.bus_law_told.specs.Tables.{IsToldByAnswers, IsAnswerTo, IsShownTo, IsRanged, HasNoWordLeft, command_shown, first_shown, second_shown};
 
 /// A message that isn't abandoned and offers no control, and beside which no answer runs on, is what its answers make of it: how it ends and when, and
 /// which stations, blocks and bursts it leaves.
@@ -85,5 +85,5 @@ pub fn the_answers_of_a_message_are_those_of_the_table()
     ensures second { (k : ℕ) (loads : List TimedLoad) (faults : List Fault) (attempt : ℕ) (item : ItemData) (channel : Channel) (start : ℕ)
         (stations : List Present) → HasKindRanges item.kind → Each IsRanged stations → (first second : ShownAnswer) →
         second_shown k loads faults attempt item channel start stations first ≡ Some second → IsShownTo first.burst second }
-    ensures silent { (hits : List Hit) (answer : Option Answer) → shown_answer hits answer ≡ None → (answer ≡ None) ⊎ IsMute hits answer }
+    ensures silent { (hits : List Hit) (answer : Option Answer) → shown_answer hits answer ≡ None → (answer ≡ None) ⊎ HasNoWordLeft hits answer }
 {}
