@@ -28,4 +28,4 @@ new-requires-2 c = record {
 }
 
 pub returns : goal.returns
-returns c = (_, _, [], [], [], c.new-2.ensures, refl)
+returns c = (_, _, [], [], [], c.new-2.ensures.stands, refl)

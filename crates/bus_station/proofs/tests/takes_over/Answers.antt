@@ -41,5 +41,5 @@ returns-then-items_left-gt0 c =
     let heard = c.hear.ensures.stands plan starts loads outside past st in
     let before = serving _ _ (sym c.in-Serving.is ∙ c.role-before.ensures plan starts loads outside past st) in
     let after = serving _ _ (sym c.in-Serving-role.is ∙ c.role.ensures plan starts loads outside (silence ∷ past) heard) in
-    let taken = c.take.ensures plan starts loads outside silence past heard before after (omega (arith, here)) in
-    (plan, starts, _, _, silence ∷ past, c.load.ensures plan starts loads _ silence past taken, omega (arith, here))
+    let taken = c.take.ensures.stands plan starts loads outside silence past heard before after (omega (arith, here)) in
+    (plan, starts, _, _, silence ∷ past, c.load.ensures.stands plan starts loads _ silence past taken, omega (arith, here))
