@@ -5,6 +5,7 @@ pub mod GoesOn
 pub mod FirstStands
 pub mod EachStands
 pub mod RunOver
+pub mod LoadedStations
 pub mod LogFound
 pub mod Fronts
 pub mod WholeWorld

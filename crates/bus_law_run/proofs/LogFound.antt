@@ -1,5 +1,5 @@
 -- The log that is found in the world is that of its run by the message table.
-use Rattle.std.proofs.Common.{◌≡◌, ℕ, zero, suc, ◌+◌, ◌<◌, ◌≤◌, Bool, true, false, List, [], ◌∷◌, ◌++◌, length, map, refl, sym, ap, ◌∙◌, arith}
+use Rattle.std.proofs.Common.{◌≡◌, ℕ, zero, suc, ◌+◌, ◌<◌, ◌≤◌, Bool, true, false, List, [], ◌++◌, length, map, refl, sym, ap, ◌∙◌, arith}
 use Rattle.std.proofs.lemmas.Bool.Decides.{nat_tests}
 use Rattle.std.specs.Prelude.{◌||◌, nat_lt, if◌then◌else◌, reverse, flat_map}
 use Rattle.bus_base.specs.declared.samples.Channel.{Channel}
@@ -9,20 +9,18 @@ use Rattle.bus_line.specs.Channels.{bursts}
 use Rattle.bus_formats.specs.Logs.{LogData}
 use Rattle.bus_formats.specs.declared.fault.Fault.{Fault}
 use Rattle.bus_model.specs.Log.{terminals, terminal_end, blocks_of, log_of}
-use Rattle.bus_model.specs.Memory.{TimedLoad}
-use Rattle.bus_model.specs.Message.{Present}
 use Rattle.bus_model.specs.Run.{Run, run_end}
 use Rattle.bus_model.specs.Wire.{drivers}
 use Rattle.bus_model.specs.World.{ticks_on, drivers_in, is_clash, clashes}
-use Rattle.bus_model.specs.WorldLog.{attempts, log_found, presents}
+use Rattle.bus_model.specs.WorldLog.{attempts, log_found}
 use Rattle.bus_law_listing.specs.Listing.{found_in_order}
 use Rattle.bus_law_listing.proofs.Found.{found-same, listed-bursts}
 use Rattle.bus_law_listing.proofs.Words.{listed-words}
 use Rattle.bus_law_messages.proofs.Sending.{shown-long}
 use Rattle.bus_law_table.specs.Happened.{burst_found, blocks_found}
-use Rattle.bus_law_table.specs.Stations.{loaded_at}
 use Rattle.bus_law_phases.specs.Scenarios.{Scenario, trace_at, shown_at, driven_at, attempts_in, blocks_in}
 use Rattle.bus_law_run.specs.RunStands.{RunStands}
+use Rattle.bus_law_run.proofs.LoadedStations.{loaded-ends, loaded-blocks}
 
 -- ---- no clash
 
@@ -45,18 +43,6 @@ no-clashes w (suc t) alone =
     one-more (is_clash w.plan.faults (driven_at w (suc t))) (clashes w.plan.faults (driven_at w t))
     (no-clash w.plan.faults (driven_at w (suc t)) (λ c. alone t (omega arith) c))
     (no-clashes w t (λ i before c. alone i (omega (arith, before)) c))
-
--- ---- the stations
-
--- no block was put up for sending
-unloaded : (loads : List TimedLoad) (tick : ℕ) (station : Present) → loads ≡ [] → loaded_at loads tick station ≡ station
-unloaded loads tick station none = ap (λ l. loaded_at l tick station) none
-
-all-unloaded : (loads : List TimedLoad) (tick : ℕ) (stations : List Present) → loads ≡ [] → map (loaded_at loads tick) stations ≡ stations
-all-unloaded loads tick [] none = refl
-all-unloaded loads tick (station ∷ stations) none =
-    ap (λ s. s ∷ map (loaded_at loads tick) stations) (unloaded loads tick station none)
-    ∙ ap (λ ss. station ∷ ss) (all-unloaded loads tick stations none)
 
 -- ---- what came to pass since the beginning
 
@@ -85,9 +71,6 @@ module _ (w : Scenario) (t : ℕ) (run : Run) (stands : RunStands w t run) where
   pub found-are : bursts w.lag (shown_at w t) ≡ found_in_order (map burst_found (reverse run.bursts))
   found-are = sym (found-same w.lag (shown_at w t)) ∙ ap found_in_order bursts-are
 
-  pub stations-are : w.loads ≡ [] → presents w.lag w.plan w.loads w.outside w.absent (shown_at w t) ≡ run.stations
-  stations-are none = stands.rested.are ∙ all-unloaded w.loads (length (shown_at w t)) run.stations none
-
 -- ---- the log
 
 same-log : (a b : LogData) → a.attempts ≡ b.attempts → a.words ≡ b.words → a.bursts ≡ b.bursts → a.terminals ≡ b.terminals → a.blocks ≡ b.blocks →
@@ -101,17 +84,17 @@ same-log a b one two three four five six seven =
     ∙ ap (λ x. record b { end = x; clashes = a.clashes }) six
     ∙ ap (λ x. record b { clashes = x }) seven
 
-module _ (w : Scenario) (run : Run) (small : w.lag ≤ 39) (none : w.loads ≡ []) (stands : RunStands w (run_end run) run) where
+module _ (w : Scenario) (run : Run) (small : w.lag ≤ 39) (stands : RunStands w (run_end run) run) where
   abbrev end : ℕ
   end = run_end run
 
   pub log-found : log_found w.lag w.plan w.loads w.outside w.absent (trace_at w (run_end run)) ≡ log_of run
   log-found =
       let found = found-are w end run stands in
-      let stations = stations-are w end run stands none in
+      let tick : ℕ = length (shown_at w end) in
       same-log (log_found w.lag w.plan w.loads w.outside w.absent (trace_at w end)) (log_of run)
       (attempts-are w end run stands) (listed-words w.lag (shown_at w end) (reverse run.bursts) found small stands.rested.rests)
-      (listed-bursts w.lag (shown_at w end) (reverse run.bursts) found) (ap (λ xs. map terminal_end (terminals xs)) stations)
-      (ap (λ xs. flat_map blocks_of (terminals xs)) stations)
+      (listed-bursts w.lag (shown_at w end) (reverse run.bursts) found) (ap (λ xs. map terminal_end (terminals xs)) stands.rested.are ∙ loaded-ends w.loads tick run.stations)
+      (ap (λ xs. flat_map blocks_of (terminals xs)) stands.rested.are ∙ loaded-blocks w.loads tick run.stations)
       (ap (λ n. record { 0 = n }) (shown-long w.lag w.plan w.loads w.outside w.absent end))
       (no-clashes w end (λ i before c. (stands.passage.orderly i (omega arith) before).alone c))

@@ -98,7 +98,7 @@ module _ (plan : PlanData) (accepted : IsAccepted plan) (plain : IsPlain plan)
 
   log : world_log LAG plan end ≡ run_log LAG plan
   unfolding world_log run_log
-  log = log-found w (plan_run plan) (omega arith) refl stands
+  log = log-found w (plan_run plan) (omega arith) stands
 
   -- ---- the receive blocks
 

@@ -6,8 +6,8 @@ use Rattle.bus_law_plans.specs.Memories.{AreBlocks}
 use Rattle.bus_law_phases.specs.Scenarios.{Scenario, NoneTakesFrom}
 use Rattle.bus_law_told.specs.Plain.{IsPlain}
 
--- an accepted, plain plan at the product's lag, all stations of which are present; none takes control by itself, and the blocks that are put up for sending have words of
--- sixteen bits
+-- an accepted, plain plan at the product's lag, all stations of which are present; none takes control by itself, and the blocks that are put up for
+-- sending have words of sixteen bits
 pub record IsPlainScenario (w : Scenario) : Type 0 where
   pub lag : w.lag ≡ 3
   pub accepted : IsAccepted w.plan

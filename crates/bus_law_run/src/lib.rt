@@ -1,5 +1,5 @@
-//! The whole run of a plan: the world does what the message table says, from the first tick to the last. Laws alone, each the contract of an
-//! empty function.
+//! The whole run of a plan: the world does what the message table says, from the first tick to the last. Laws alone, each the contract of a
+//! function that does nothing.
 #![tactic(auto)]
 
 pub mod blocks;
