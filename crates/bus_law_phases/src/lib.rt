@@ -1,5 +1,10 @@
 //! Phases of a message: what the world does from one moment of a message to the next, in the words of the message table. Laws alone, each the
-//! contract of an empty function, at lag 3.
+//! contract of an empty function, at lag 3 where a burst is sent. A moment lies between two messages or in the midst of one, and a passage lists all
+//! that came to pass from one tick to another. Proved, whatever faults strike the words: a command, an answer of which something is shown, one of
+//! which nothing is, silence, an answer that doesn't come, and promises that run out each lead from one moment to the next, with the stations,
+//! blocks, bursts and attempts of the table, and with each tick in order; a closed message leaves a moment between two messages, which lasts until the
+//! next one starts; and the world of an accepted plan begins with such a moment. Not proved here: an answer that accepts control, and one that is
+//! abandoned.
 #![tactic(auto)]
 
 pub mod answers;

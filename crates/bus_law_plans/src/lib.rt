@@ -1,8 +1,8 @@
 //! What holds in each run of an accepted plan by the message table alone. Laws alone, each the contract of an empty function; no world is in them. Proved: the
-//! stations of a run are those of the plan, what is left of each is a rest of its agenda, and who serves; what its terminals keep and answer stays
-//! within the ranges of words; how many attempts and ticks its agendas have; the bounds on its ticks, bursts and words; and, where no fault deceives
-//! the count of an answer's words, that each block that it delivers is the one that was sent, whole. Not proved here: that the world does what the
-//! message table says.
+//! stations of a run are those of the plan, what is left of each is a rest of its agenda, and who serves; which message comes next, and that after an
+//! abandoned answer it is the one that supersedes it; what its terminals keep and answer stays within the ranges of words; how many attempts and
+//! ticks its agendas have; the bounds on its ticks, bursts and words; and, where no fault deceives the count of an answer's words, that each block
+//! that it delivers is the one that was sent, whole. Not proved here: that the world does what the message table says.
 #![tactic(auto)]
 
 pub mod amounts;

@@ -14,8 +14,8 @@ ghost use Rattle.bus_law_run.specs.WholeRun.{IsPlainScenario, run_in};
 
 use bus_model::a_run_comes_to_an_end;
 
-/// A station of which no message offers control keeps control once it has it, and never doubts whether it has. At every lag, for any loads, whatever is
-/// shown.
+/// A station of which no message offers control, nor may be abandoned, keeps control once it has it, and never doubts whether it has. At every lag, for
+/// any loads, whatever is shown.
 pub fn control_is_kept_where_none_is_offered()
     ensures keeps { (k : ℕ) (station : StationData) (starts : Bool) (loads : List TimedLoad) (outside : List OutsideTake) (shown : Pair)
         (past : List Pair) → IsPlainStation station → holds_control k station starts loads outside past ≡ true →
@@ -24,7 +24,7 @@ pub fn control_is_kept_where_none_is_offered()
         IsPlainStation station → doubts k station starts loads outside past ≡ false }
 {}
 
-/// So in the run of a plan without offers the station that starts holds control after every tick, up to the end of the run, and no other one ever does.
+/// So in the run of a plain plan the station that starts holds control after every tick, up to the end of the run, and no other one ever does.
 pub fn control_stays_in_one_hand()
     ensures { (w : Scenario) (place : ℕ) (holder : StationData) (t : ℕ) → IsPlainScenario w → IsPresentAt w place holder →
         starts w.plan holder ≡ true → t ≤ run_end (run_in w) → HoldsAt w t place holder }

@@ -27,7 +27,8 @@ pub fn the_next_message_waits()
 {}
 
 /// Where the world has come as far as a run of an accepted plan, and the station in control has an item left, it comes as far as the run with one
-/// attempt more: the bus is quiet until that attempt starts, and its message is what the message table says. At lag 3, for any loads.
+/// attempt more: the bus is quiet until that attempt starts, and its message is what the message table says. Of a plain plan at
+/// lag 3, for any loads that are blocks, with any stations absent.
 pub fn a_run_goes_on()
     ensures { (w : Scenario) (t : ℕ) (run : Run) (next : Next) → IsAccepted w.plan → IsPlain w.plan → NoneTakesFrom w 0 → w.lag ≡ 3 →
         AreBlocks w.loads → IsRunOf w.plan run → KeepsWordRanges run → RunStands w t run → next_item run ≡ Some next →

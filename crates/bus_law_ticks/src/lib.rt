@@ -1,6 +1,8 @@
 //! Terminals and controllers by tick numbers. The definitions go on tick by tick, and keep only what the next tick needs; here it is said once more of
-//! a whole hearing or history: which block a subaddress has, which command is obeyed, what the last order left, when an answer that is owed is
-//! sent or given up, when a promise is kept or runs out, and which answer counts. Laws alone, each the contract of an empty function.
+//! a whole hearing or history, so that a reader can check the definitions. Laws alone, each the contract of an empty function. Proved: which block a
+//! subaddress has received; which command is obeyed, and which burst is taken for a promise; what the last order left; when an answer that is owed is
+//! sent or given up, and when a promise runs out; which channel a terminal heeds; and, for a controller, which answer counts and when a message ends
+//! without one.
 #![tactic(auto)]
 
 pub mod blocks;

@@ -1,5 +1,8 @@
 //! Messages of the world, told whole: each is what the message table says of it, whatever faults strike it. Laws alone, each the contract of an empty
-//! function, at lag 3.
+//! function. Proved at lag 3: a message of an item that may not be abandoned and offers no control, which begins between two others, ends in the
+//! table's tick with the table's outcome, statuses and words; the blocks taken, the bursts shown and the stations after it are the table's; each of
+//! its ticks is in order; and it ends between two messages. It is made of the phases of bus_law_phases, of what the table's message is by what is shown of
+//! its answers, and of what the station in control does beside an answer. Not proved here: messages that may be abandoned or that offer control.
 #![tactic(auto)]
 
 pub mod holders;
