@@ -35,7 +35,7 @@ use Rattle.bus_law_stations.proofs.StillStation.{always-taken, still-so-far, sti
 use Rattle.bus_law_stations.proofs.Turning.{holding-course, holding-sends}
 use Rattle.bus_law_messages.specs.Settled.{IsFree, IsServing, NoneStarts}
 use Rattle.bus_law_messages.proofs.Running.{quiet-pair}
-use Rattle.bus_law_messages.proofs.Unanswered.{free-still}
+use Rattle.bus_law_messages.proofs.LaterTicks.{free-still}
 
 -- ---- channels
 

@@ -21,7 +21,7 @@ use Rattle.bus_law_stations.proofs.Resting.{rests-quiet}
 use Rattle.bus_law_stations.proofs.StillController.{pairs-long}
 use Rattle.bus_law_messages.specs.Settled.{Settled, NoneTakes, NoneStarts}
 use Rattle.bus_law_messages.proofs.Sending.{place-silent, place-drives, shown-long}
-use Rattle.bus_law_messages.proofs.Unanswered.{trace-later}
+use Rattle.bus_law_messages.proofs.LaterTicks.{trace-later}
 use Rattle.bus_law_messages.proofs.Pausing.{on-quiet, from-quiet, same-course, holder-silent, nothing-starts, serving-still, serving-quiet, paused, undriven-still}
 
 module _ (k : ℕ) (plan : PlanData) (loads : List TimedLoad) (outside : List OutsideTake) (absent : List ℕ) (before : Trace) (place : ℕ)

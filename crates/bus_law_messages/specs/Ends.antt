@@ -13,7 +13,7 @@ use Rattle.bus_formats.specs.declared.fault.Hit.{Hit}
 use Rattle.bus_formats.specs.declared.form.Outcome.TheVariants.{Sent}
 use Rattle.bus_formats.specs.declared.form.Shape.{Shape}
 use Rattle.bus_model.specs.Memory.{TimedLoad}
-use Rattle.bus_model.specs.Orders.{Obeyed, free, Order, last_order, due_after}
+use Rattle.bus_model.specs.Orders.{Obeyed, Order, last_order, due_after}
 use Rattle.bus_model.specs.Standing.{Standing, is_owed}
 use Rattle.bus_model.specs.Hearing.{Moment, Hearing}
 use Rattle.bus_model.specs.Terminal.{standing, standing_after, took_now}
@@ -91,12 +91,3 @@ pub record CommandOver (k : ℕ) (plan : PlanData) (loads : List TimedLoad) (out
   pub others : (other : ℕ) (station : StationData) → slice_get plan.stations other ≡ Some station → other ≢ place → is_present absent station ≡ true →
       HeardCommand k station (starts plan station) loads outside before.shown ticks begun.state.channel
       (burst_sent begun.start hits (command_words begun.entry.item.kind))
-
--- no terminal owes or promises anything to this burst, which ends on a channel after what was shown
-abbrev pub IsUnanswered : ℕ → PlanData → List TimedLoad → List OutsideTake → List ℕ → List Pair → ℕ → Channel → Burst → Type 0
-IsUnanswered k plan loads outside absent past place c burst =
-    (other : ℕ) (station : StationData) → slice_get plan.stations other ≡ Some station → other ≢ place → is_present absent station ≡ true →
-    (order : Order) → last_order station.terminal.address burst.slots ≡ Some order →
-    (obeyed_in station.terminal loads (end_of burst + k)
-    (standing_after k station.terminal loads (hearing_after k station (starts plan station) loads outside past)) c order (rest_of burst)
-    (has_items (course_after k station (starts plan station) loads outside past).left)).duty ≡ free

@@ -25,7 +25,7 @@ use Rattle.bus_model.specs.Control.{OutsideTake, StationSoFar, yielded_in, momen
 use Rattle.bus_model.specs.World.{drives_after}
 use Rattle.bus_law_control.proofs.Holding.{kept-tick, heard-nothing}
 use Rattle.bus_law_messages.specs.Promises.{IsListening, Listens, IsReplying}
-use Rattle.bus_law_messages.proofs.Answering.{answer-drives}
+use Rattle.bus_law_phases.proofs.Answering.{answer-drives}
 use Rattle.bus_law_messages.proofs.Heard.{hearing-long}
 use Rattle.bus_law_messages.proofs.Listening.{listening-ready, listening-hears, quiet-not-ended, serving-listens, serving-nothing, serving-silent, shown-leg, shown-quiet}
 use Rattle.bus_law_messages.proofs.Sending.{place-silent, place-drives}
@@ -37,7 +37,7 @@ use Rattle.bus_law_stations.proofs.Ready.{orders-none, ready-running}
 use Rattle.bus_law_stations.proofs.StillStation.{always-taken}
 use Rattle.bus_law_stations.proofs.Turning.{serving-hears, serving-same}
 use Rattle.bus_law_table.proofs.Idle.{order-none}
-use Rattle.bus_law_table.proofs.Kept.{kept-more}
+use Rattle.bus_law_phases.proofs.Kept.{kept-more}
 use Rattle.bus_law_table.proofs.Takes.{unheard-takes}
 use Rattle.bus_law_phases.specs.Scenarios.{Scenario, course_of, hearing_of, IsPresentAt, NoneTakesFrom}
 use Rattle.bus_law_phases.specs.Moments.{HasDuty}

@@ -42,7 +42,7 @@ use Rattle.bus_law_stations.specs.Turns.{KeepsControl, Serves}
 use Rattle.bus_law_stations.proofs.Resting.{cases-option}
 use Rattle.bus_law_table.specs.Happened.{took_in, blocks_in as blocks_now, burst_found}
 use Rattle.bus_law_table.proofs.AllStations.{took-none, IsTold, all-told}
-use Rattle.bus_law_table.proofs.Kept.{command-kept}
+use Rattle.bus_law_phases.proofs.Kept.{command-kept}
 use Rattle.bus_law_table.proofs.Pairing.{beside-filter_map, filter_map-map}
 use Rattle.bus_law_table.proofs.Pairing as lists
 use Rattle.bus_law_table.proofs.Takes.{unheard-takes}

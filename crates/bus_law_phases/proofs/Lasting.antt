@@ -21,7 +21,7 @@ use Rattle.bus_model.specs.WorldLog.{present_stations}
 use Rattle.bus_law_line.specs.Senders.{LeftAlone}
 use Rattle.bus_law_parts.specs.Parts.{IsFresh}
 use Rattle.bus_law_messages.proofs.Sending.{shown-long}
-use Rattle.bus_law_messages.proofs.Unanswered.{trace-later}
+use Rattle.bus_law_messages.proofs.LaterTicks.{trace-later}
 use Rattle.bus_law_stations.specs.Silence.{NothingStarts, StationRests}
 use Rattle.bus_law_stations.proofs.StillStation.{still-after}
 use Rattle.bus_law_table.specs.Stations.{loaded_at}

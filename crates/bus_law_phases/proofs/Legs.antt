@@ -28,7 +28,7 @@ use Rattle.bus_law_control.proofs.Holding.{ended-before}
 use Rattle.bus_law_line.specs.Senders.{Sender, IsSpent, attempt_to_come}
 use Rattle.bus_law_line.proofs.Sent.{left-undriven}
 use Rattle.bus_law_messages.proofs.Listening.{this-or-other}
-use Rattle.bus_law_messages.proofs.Unanswered.{trace-later}
+use Rattle.bus_law_messages.proofs.LaterTicks.{trace-later}
 use Rattle.bus_law_parts.specs.Parts.{part_ticks, HitsFit, IsFresh}
 use Rattle.bus_law_parts.proofs.SentParts.{part-drivers}
 use Rattle.bus_law_table.specs.Happened.{block_at, took_in, blocks_in as blocks_now, blocks_found}

@@ -46,3 +46,9 @@ pub mod MuteTicks
 pub mod MuteDuties
 pub mod MutePhase
 pub mod SilencedOver
+pub mod Answering
+pub mod Awaiting
+pub mod Settling
+pub mod Silenced
+pub mod Closed
+pub mod Kept

@@ -31,7 +31,7 @@ use Rattle.bus_model.specs.WorldLog.{present_stations, ended_by}
 use Rattle.bus_law_line.specs.Senders.{Sender}
 use Rattle.bus_law_messages.proofs.Pausing.{on-quiet, from-quiet}
 use Rattle.bus_law_messages.proofs.Sending.{place-silent, place-drives, shown-long}
-use Rattle.bus_law_messages.proofs.Unanswered.{trace-later}
+use Rattle.bus_law_messages.proofs.LaterTicks.{trace-later}
 use Rattle.bus_law_parts.specs.Parts.{part_ticks}
 use Rattle.bus_law_stations.specs.Silence.{NothingStarts, StationRests}
 use Rattle.bus_law_stations.proofs.Resting.{rests-quiet}

@@ -33,7 +33,7 @@ use Rattle.bus_law_messages.specs.Settled.{IsServing}
 use Rattle.bus_law_messages.specs.Promises.{Listens, HeardBurst}
 use Rattle.bus_law_messages.proofs.Heard.{hearing-long}
 use Rattle.bus_law_messages.proofs.Listening.{moments-shown, this-or-other}
-use Rattle.bus_law_messages.proofs.Settling.{serving-then}
+use Rattle.bus_law_phases.proofs.Settling.{serving-then}
 use Rattle.bus_law_phases.specs.Scenarios.{Scenario, course_of, hearing_of, standing_of}
 use Rattle.bus_law_phases.specs.Moments.{Hears, Owes, Promises}
 use Rattle.bus_law_phases.specs.PartRuns.{burst_shown}

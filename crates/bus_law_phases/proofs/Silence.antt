@@ -28,7 +28,7 @@ use Rattle.bus_law_line.specs.Shown.{shown_of}
 use Rattle.bus_law_messages.proofs.Pausing.{on-quiet}
 use Rattle.bus_law_messages.proofs.Running.{quiet-pair}
 use Rattle.bus_law_messages.proofs.Sending.{place-silent, shown-long}
-use Rattle.bus_law_messages.proofs.Unanswered.{trace-later}
+use Rattle.bus_law_messages.proofs.LaterTicks.{trace-later}
 use Rattle.bus_law_stations.proofs.Resting.{rests-quiet}
 use Rattle.bus_law_stations.proofs.StillStation.{still-quiet}
 use Rattle.bus_law_table.proofs.Quiet.{quiet-bursts}

@@ -24,7 +24,7 @@ use Rattle.bus_model.specs.World.{is_present}
 use Rattle.bus_model.specs.WorldLog.{present_stations, ended_by}
 use Rattle.bus_law_control.proofs.Holding.{heard-nothing, yielded-before, kept-tick}
 use Rattle.bus_law_messages.proofs.Sending.{shown-long}
-use Rattle.bus_law_messages.proofs.Silenced.{Pending, silent_ending, nothing-due, course-ends, silenced-silent, silenced-course, end-kept}
+use Rattle.bus_law_phases.proofs.Silenced.{Pending, silent_ending, nothing-due, course-ends, silenced-silent, silenced-course, end-kept}
 use Rattle.bus_law_stations.specs.Silence.{AwaitsFirst, AwaitsSecond}
 use Rattle.bus_law_stations.specs.Turns.{KeepsControl}
 use Rattle.bus_law_stations.proofs.StillStation.{always-taken}

@@ -15,7 +15,7 @@ use Rattle.bus_model.specs.World.{Trace, is_present}
 use Rattle.bus_model.specs.WorldLog.{present_stations}
 use Rattle.bus_law_messages.specs.Settled.{IsServing}
 use Rattle.bus_law_table.specs.Stations.{loaded_at, IsNamedApart, ArePresent}
-use Rattle.bus_law_table.proofs.Closed.{closed, other-closed, own-told}
+use Rattle.bus_law_phases.proofs.Closed.{closed, other-closed, own-told}
 use Rattle.bus_law_table.proofs.Pairing.{Each, beside-map, map-map}
 use Rattle.bus_law_phases.specs.Scenarios.{Scenario, course_of, present_of, IsPresentAt}
 use Rattle.bus_law_phases.specs.Moments.{HasDuty, IsHolder, IsServer, IsAfter, Underway}

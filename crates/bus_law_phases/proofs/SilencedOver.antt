@@ -25,7 +25,7 @@ use Rattle.bus_model.specs.Orders.{Duty, free, owes, promises}
 use Rattle.bus_model.specs.Standing.{is_owed}
 use Rattle.bus_model.specs.Starts.{Entry, usual, quiet_for, start_of}
 use Rattle.bus_model.specs.Strikes.{ShownBurst, burst_end}
-use Rattle.bus_law_messages.proofs.Awaiting.{awaits-quiet, second-quiet}
+use Rattle.bus_law_phases.proofs.Awaiting.{awaits-quiet, second-quiet}
 use Rattle.bus_law_messages.proofs.Pausing.{on-quiet, from-quiet}
 use Rattle.bus_law_messages.proofs.Sending.{shown-long}
 use Rattle.bus_law_stations.specs.Silence.{AwaitsFirst, AwaitsSecond, NothingStarts}

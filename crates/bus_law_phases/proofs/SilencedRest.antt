@@ -14,7 +14,7 @@ use Rattle.bus_model.specs.WorldLog.{present_stations}
 use Rattle.bus_law_messages.specs.Settled.{NoneStarts}
 use Rattle.bus_law_messages.proofs.Pausing.{nothing-starts, serving-still, from-quiet}
 use Rattle.bus_law_messages.proofs.Sending.{shown-long}
-use Rattle.bus_law_messages.proofs.Unanswered.{trace-later}
+use Rattle.bus_law_messages.proofs.LaterTicks.{trace-later}
 use Rattle.bus_law_stations.specs.Silence.{StationRests}
 use Rattle.bus_law_stations.proofs.StillStation.{still-after}
 use Rattle.bus_law_table.specs.Stations.{loaded_at, ArePresent}

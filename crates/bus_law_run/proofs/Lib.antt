@@ -21,3 +21,4 @@ pub mod BlocksInWorld
 pub mod DeliveriesFound
 pub mod HeardSince
 pub mod BurstsTaken
+pub mod KeptReadings

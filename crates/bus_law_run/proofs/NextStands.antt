@@ -13,7 +13,7 @@ use Rattle.bus_model.specs.Run.{Run, with_station, pass_control, after_attempt, 
 use Rattle.bus_model.specs.Starts.{opening_after, retry_by, finishes}
 use Rattle.bus_model.specs.Strikes.{ShownBurst}
 use Rattle.bus_law_messages.specs.Settled.{NoneStarts}
-use Rattle.bus_law_table.specs.Tells.{after_message}
+use Rattle.bus_law_table.specs.Stations.{after_message}
 use Rattle.bus_law_phases.specs.Commands.{attempt_recorded}
 use Rattle.bus_law_phases.specs.Passages.{Happening, Passage, followed_by, nothing_happens}
 use Rattle.bus_law_phases.specs.Rests.{Rested}

@@ -17,7 +17,7 @@ use Rattle.bus_formats.specs.declared.form.Reading.TheVariants.{Good, Ends}
 use Rattle.bus_model.specs.Attempts.{Begun, Ended, is_offer}
 use Rattle.bus_model.specs.Controller.{Reply, silence, awaited, running, whole, reply, ended_so, second_read, second_ending, good_ending, read_ending, first_read, abandon_ending, first_ending, command_ending, ending_after, ending_now}
 use Rattle.bus_model.specs.Course.{gives}
-use Rattle.bus_law_messages.proofs.KeptReadings.{reading-keeps}
+use Rattle.bus_law_run.proofs.KeptReadings.{reading-keeps}
 
 -- where the message ends, control isn't given away
 abbrev pub Keeps : Option Ended → Type 0

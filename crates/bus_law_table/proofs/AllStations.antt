@@ -1,15 +1,10 @@
 -- All stations that are present over the command of a message: the one in control, and those that serve.
-use Rattle.std.proofs.Common.{◌≡◌, ◌≢◌, ◌⊎◌, inl, inr, ℕ, suc, ◌+◌, ◌<◌, ◌≤◌, true, false, List, [], ◌∷◌, ◌++◌, length, Some, None, refl, sym, ap, ◌∙◌, subst, arith}
+use Rattle.std.proofs.Common.{◌≡◌, ◌≢◌, ◌⊎◌, inl, inr, ℕ, suc, ◌+◌, ◌≤◌, true, false, List, ◌++◌, length, Some, None, refl, sym, ap, ◌∙◌, subst}
 use Rattle.std.proofs.lemmas.Bool.{cases_eq}
-use Rattle.std.proofs.lemmas.List.{append-nil}
 use Rattle.std.proofs.lemmas.Option.{same_Some}
-use Rattle.std.specs.Prelude.{not, drop, slice_get, option_map}
-use Rattle.bus_base.specs.Samples.{other_of}
-use Rattle.bus_base.specs.declared.samples.Channel.{Channel}
+use Rattle.std.specs.Prelude.{not, slice_get, option_map}
 use Rattle.bus_base.specs.declared.samples.Pair.{Pair}
-use Rattle.bus_base.specs.declared.samples.Sample.{Sample}
-use Rattle.bus_line.specs.Past.{Burst, InLeg, quiet_ticks, end_of, rest_of}
-use Rattle.bus_line.specs.Channels.{on_channel}
+use Rattle.bus_line.specs.Past.{Burst, end_of, rest_of}
 use Rattle.bus_formats.specs.Plans.{StationData, PlanData}
 use Rattle.bus_model.specs.Memory.{TimedLoad, with_loads}
 use Rattle.bus_model.specs.Message.{Present, unmoved, after_command}
@@ -19,14 +14,12 @@ use Rattle.bus_model.specs.Terminal.{standing_after, took_now}
 use Rattle.bus_model.specs.Control.{OutsideTake, course_after, hearing_after}
 use Rattle.bus_model.specs.World.{is_present}
 use Rattle.bus_model.specs.WorldLog.{present_stations, present_after}
-use Rattle.bus_law_stations.specs.Turns.{KeepsControl}
-use Rattle.bus_law_messages.specs.Settled.{IsServing, NoneTakes}
+use Rattle.bus_law_messages.specs.Settled.{IsServing}
 use Rattle.bus_law_messages.specs.Ends.{HeardCommand}
-use Rattle.bus_law_table.specs.Stations.{loaded_at, ArePresent, HeardNothing}
-use Rattle.bus_law_table.specs.Happened.{block_at, took_in, blocks_in, blocks_found}
+use Rattle.bus_law_table.specs.Stations.{loaded_at, ArePresent}
+use Rattle.bus_law_table.specs.Happened.{block_at, took_in}
 use Rattle.bus_law_table.proofs.OneStation.{serving_with, serving-is, CommandTold, command-told}
-use Rattle.bus_law_table.proofs.Pairing.{Each, Beside, beside, none-each, each-filter}
-use Rattle.bus_law_table.proofs.Takes.{serving-takes, unheard-takes, unheard-on}
+use Rattle.bus_law_table.proofs.Pairing.{Each, Beside, beside, each-filter}
 
 module _ (k : ℕ) (plan : PlanData) (loads : List TimedLoad) (outside : List OutsideTake) (absent : List ℕ) (past : List Pair) (place : ℕ)
     (holder : StationData) where
@@ -54,28 +47,6 @@ module _ (k : ℕ) (plan : PlanData) (loads : List TimedLoad) (outside : List Ou
       took_in k plan loads outside absent xs tick x ≡ None
   took-none x xs tick none =
       ap (option_map (block_at tick (standing_after k x.terminal loads (hearing_after k x (starts plan x) loads outside xs)).channel x)) none
-
-  pub leg-blocks : (c : Channel) → k < 40 → Others → HeardNothing k holder (starts plan holder) loads outside past →
-      slice_get plan.stations place ≡ Some holder → (ticks : List Pair) → InLeg k (on_channel c ticks) →
-      on_channel (other_of c) ticks ≡ quiet_ticks (length ticks) → KeepsControl k holder (starts plan holder) loads outside past ticks →
-      NoneTakes k plan loads outside place (length past) (length past + length ticks) →
-      blocks_found k plan loads outside absent (ticks ++ past) ≡ blocks_found k plan loads outside absent past
-  unfolding blocks_found
-  leg-blocks c small others unheard there [] leg quiet controls stays = refl
-  leg-blocks c small others unheard there (x ∷ ticks) leg quiet controls stays =
-      let nothing : blocks_in k plan loads outside absent (x ∷ (ticks ++ past)) (length (ticks ++ past)) ≡ [] =
-      none-each IsThere (took_in k plan loads outside absent (x ∷ (ticks ++ past)) (length (ticks ++ past))) (present_stations k plan loads outside absent)
-      (all-there there) (λ st here. elim here [
-        | inl same ↦ ap (took_in k plan loads outside absent (x ∷ (ticks ++ past)) (length (ticks ++ past))) same
-            ∙ took-none holder (x ∷ (ticks ++ past)) (length (ticks ++ past)) (unheard-takes k holder (starts plan holder) loads outside x (ticks ++ past)
-            (unheard-on k holder (starts plan holder) loads outside past (x ∷ ticks) unheard controls))
-        | inr other ↦ took-none st (x ∷ (ticks ++ past)) (length (ticks ++ past)) (serving-takes k st (starts plan st) loads outside past c
-            (others other.0 st other.1 other.2 other.3) x ticks leg quiet (stays other.0 st other.1 other.2))
-      ]) in
-      ap (λ bs. blocks_found k plan loads outside absent (ticks ++ past) ++ bs) nothing
-      ∙ append-nil (blocks_found k plan loads outside absent (ticks ++ past))
-      ∙ leg-blocks c small others unheard there ticks leg.2 (ap (λ (xs : List Sample). drop 1 xs) quiet) controls.2
-      (λ other st at apart tick low high. stays other st at apart tick low (omega (arith, high)))
 
   -- ---- the end of a command
 

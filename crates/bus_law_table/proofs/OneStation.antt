@@ -75,9 +75,6 @@ module _ (k : ℕ) (plan : PlanData) (loads : List TimedLoad) (outside : List Ou
       (long : length (ticks ++ past) ≡ suc tick) (early : length past ≤ tick) (memory : Memory)
       (alike : with_loads station.terminal.address (length past) loads memory
       ≡ (present_after k plan loads outside absent past station).memory) where
-    abbrev t : ℕ
-    t = length past
-
     abbrev later : Hearing
     later = hearing_after k station (starts plan station) loads outside (ticks ++ past)
 

@@ -64,10 +64,6 @@ pub filter_map-map : {X Y Z : Type 0} (f : Y → Option Z) (g : X → Y) (xs : L
 filter_map-map f g [] = refl
 filter_map-map f g (x ∷ xs) = rw (filter_map-map f g xs) refl
 
-pub map-each : {X Y : Type 0} (P : X → Type 0) (f g : X → Y) (xs : List X) → Each P xs → ((x : X) → P x → f x ≡ g x) → map f xs ≡ map g xs
-map-each P f g [] each agree = refl
-map-each P f g (x ∷ xs) each agree = ap (λ y. y ∷ map f xs) (agree x each.0) ∙ ap (λ ys. g x ∷ ys) (map-each P f g xs each.1 agree)
-
 pub none-each : {X Y : Type 0} (P : X → Type 0) (f : X → Option Y) (xs : List X) → Each P xs → ((x : X) → P x → f x ≡ None) → filter_map f xs ≡ []
 none-each P f [] each none = refl
 none-each P f (x ∷ xs) each none = rw (none x each.0) (none-each P f xs each.1 none)
@@ -83,10 +79,6 @@ pub each-filter : {X : Type 0} (P : X → Type 0) (p : X → Bool) (xs : List X)
 each-filter P p [] make = tt
 each-filter P p (x ∷ xs) make =
     filter-one P p x xs (p x) refl (make 0 x refl) (each-filter P p xs (λ i y there passes. make (suc i) y there passes))
-
-pub each-map : {X Y : Type 0} (f : X → Y) (Q : Y → Type 0) (xs : List X) → Each (λ x. Q (f x)) xs → Each Q (map f xs)
-each-map f Q [] each = tt
-each-map f Q (x ∷ xs) each = (each.0, each-map f Q xs each.1)
 
 -- ---- an item of a list
 
@@ -107,9 +99,3 @@ has-filter p (y ∷ ys) zero x there passes =
     has-one (λ z. z ≡ x) p y ys true (ap p same ∙ passes) (λ on. inl same) (λ off. absurd (true≢false off))
 has-filter p (y ∷ ys) (suc i) x there passes =
     let later = has-filter p ys i x there passes in has-one (λ z. z ≡ x) p y ys (p y) refl (λ on. inr later) (λ off. later)
-
-pub beside-so : {X Y : Type 0} (R S : X → Y → Type 0) (xs : List X) (ys : List Y) → ((x : X) (y : Y) → R x y → S x y) → Beside R xs ys → Beside S xs ys
-beside-so R S [] [] tell pairs = tt
-beside-so R S [] (y ∷ ys) tell pairs = absurd pairs
-beside-so R S (x ∷ xs) [] tell pairs = absurd pairs
-beside-so R S (x ∷ xs) (y ∷ ys) tell pairs = (tell x y pairs.0, beside-so R S xs ys tell pairs.1)

@@ -1,4 +1,2 @@
 pub mod Stations
 pub mod Happened
-pub mod Tells
-pub mod Runs

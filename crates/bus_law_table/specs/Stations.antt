@@ -1,15 +1,15 @@
 -- The stations of the message table beside those of the world. The table adds blocks that were put up for sending only where a terminal obeys; so
 -- its stations are those of the world once the blocks of all ticks before are added.
-use Rattle.std.specs.Prelude.{◌≡◌, ◌≢◌, ℕ, Bool, List, [], map, length, slice_get, Some}
+use Rattle.std.specs.Prelude.{◌≡◌, ◌≢◌, ℕ, Bool, List, map, length, slice_get, Some}
 use Rattle.bus_base.specs.declared.samples.Pair.{Pair}
-use Rattle.bus_base.specs.declared.samples.Part.{Part}
 use Rattle.bus_formats.specs.Plans.{StationData, PlanData}
-use Rattle.bus_formats.specs.declared.fault.Fault.{Fault}
 use Rattle.bus_model.specs.Memory.{TimedLoad, with_loads}
-use Rattle.bus_model.specs.Message.{Present, address_of_station}
+use Rattle.bus_model.specs.Message.{Present, Message, address_of_station}
 use Rattle.bus_model.specs.Control.{OutsideTake, unheard_ticks, hearing_after}
-use Rattle.bus_model.specs.Strikes.{hits_on}
 use Rattle.bus_model.specs.WorldLog.{presents}
+use Rattle.bus_retry.specs.Retries.{next_of}
+use Rattle.bus_model.specs.Attempts.{Begun}
+use Rattle.bus_model.specs.Run.{with_station, after_attempt}
 
 -- a station with the blocks that were put up for sending before a tick
 abbrev pub loaded_at : List TimedLoad → ℕ → Present → Present
@@ -20,10 +20,6 @@ abbrev pub ArePresent : ℕ → PlanData → List TimedLoad → List OutsideTake
 ArePresent k plan loads outside absent past stations =
     presents k plan loads outside absent past ≡ map (loaded_at loads (length past)) stations
 
--- no fault of the plan names the attempt
-abbrev pub IsUnstruck : List Fault → ℕ → Type 0
-IsUnstruck faults attempt = (part : Part) → hits_on faults attempt part ≡ []
-
 -- no other station has the address of this one
 abbrev pub IsNamedApart : PlanData → ℕ → StationData → Type 0
 IsNamedApart plan place holder =
@@ -33,3 +29,9 @@ IsNamedApart plan place holder =
 -- the terminal of a station in control heard nothing since it took control, or ever
 abbrev pub HeardNothing : ℕ → StationData → Bool → List TimedLoad → List OutsideTake → List Pair → Type 0
 HeardNothing k station starts loads outside past = (hearing_after k station starts loads outside past).ticks ≡ unheard_ticks past
+
+-- the stations after an attempt of the one in control, where they are these after its message
+abbrev pub after_message : StationData → Begun → Message → List Present
+after_message holder begun m =
+    with_station holder.terminal.address
+    (after_attempt begun m.ending.ended.outcome (next_of begun.entry.item begun.state m.ending.ended.outcome)) m.stations

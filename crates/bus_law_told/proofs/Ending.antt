@@ -20,7 +20,7 @@ use Rattle.bus_model.specs.Starts.{Entry, Origin, usual, needed_quiet, opening_a
 use Rattle.bus_model.specs.Strikes.{ShownBurst}
 use Rattle.bus_law_messages.specs.Settled.{NoneStarts}
 use Rattle.bus_law_messages.proofs.Sending.{shown-long}
-use Rattle.bus_law_table.specs.Tells.{after_message}
+use Rattle.bus_law_table.specs.Stations.{after_message}
 use Rattle.bus_law_phases.specs.Closings.{stations_closed}
 use Rattle.bus_law_phases.specs.Commands.{begun_at, attempt_recorded}
 use Rattle.bus_law_phases.specs.Passages.{Passage}

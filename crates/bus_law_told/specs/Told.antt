@@ -13,7 +13,7 @@ use Rattle.bus_law_messages.specs.Settled.{NoneStarts}
 use Rattle.bus_law_plans.specs.Entries.{IsEntryOf}
 use Rattle.bus_law_plans.specs.Memories.{HasWordRanges}
 use Rattle.bus_law_stations.specs.Messages.{BeginsMessage}
-use Rattle.bus_law_table.specs.Tells.{after_message}
+use Rattle.bus_law_table.specs.Stations.{after_message}
 use Rattle.bus_law_phases.specs.Commands.{begun_at, attempt_recorded}
 use Rattle.bus_law_phases.specs.Passages.{Happening, Passage}
 use Rattle.bus_law_phases.specs.Rests.{Rested}
