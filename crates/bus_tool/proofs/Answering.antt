@@ -2,6 +2,7 @@
 use Rattle.std.proofs.Common.{◌≡◌, ℕ, ◌≤◌, List, length, Option, None, Ok, false, refl, inl, inr, arith}
 use Rattle.std.specs.Prelude.{nat_lt}
 use Rattle.std.proofs.lemmas.Bool.Decides.{nat_tests}
+use Rattle.bus_formats.specs.Accepted.{IsAccepted}
 use Rattle.bus_formats.specs.Plans.{PlanData, without_subsystems}
 use Rattle.bus_formats.specs.declared.log.Delivery.{Delivery}
 use Rattle.bus_plan.specs.PlanOf.{plan_of_bytes}
@@ -48,16 +49,17 @@ module _ (held0 held1 : Option (List ℕ)) (sink0 sink1 status : ℕ) (bus : Opt
   captures without is same ran = rw is (rw same at ran)
 
   -- the plan of an input was run
-  pub answers-input : (input : List ℕ) → length input ≤ 4194304 → plan_of_bytes input ≡ Ok plan →
+  pub answers-input : (input : List ℕ) → length input ≤ 4194304 → plan_of_bytes input ≡ Ok plan → IsAccepted plan →
       AnswersRun held0 held1 sink0 sink1 status bus told0 told1 said0 said1 spare0 spare1 text (plan_run text plan) →
       Answers held0 held1 sink0 sink1 status bus told0 told1 said0 said1 spare0 spare1 text input
-  answers-input input short read answers = record {
+  answers-input input short read is_accepted answers = record {
     later = answers.later;
     answer = elim answers.answer [
       | inl run ↦ inl record {
         accepted = accepted-input input plan short read;
         plan = plan;
         read = read;
+        is_accepted = is_accepted;
         ticks = run.0;
         ends = run.1;
         objects = run.2;

@@ -17,6 +17,7 @@ use Rattle.bus_tool.specs.Ends.{ReadsInput, Ran, WasRefused, Stopped, RanOut, Is
 use Rattle.bus_tool.specs.Texts.{plan_run, text_of, status_of}
 use Rattle.bus_tool.specs.declared.text.Text.{Text}
 use Rattle.bus_tool.proofs.Answering.{untouched}
+use Rattle.bus_tool.proofs.TablesRun.{tables-run}
 
 -- an input is refused or not
 one_refusal : (o : Option (List ℕ)) (text : List ℕ) → o ≡ Some text → o ≡ None → ⊥
@@ -147,6 +148,7 @@ module _ (left0 left1 held0 held1 : Option (List ℕ)) (source0 source1 sink0 si
             objects = ran.objects;
             status_is = done.status_is;
             written = done.written;
+            tables = tables-run text ran.plan ran.ticks said1 status ran.is_accepted ran.ends done.status_is;
           }
       | inr failed ↦ rw (failed.status_is, failed.no_bus) (stopped_ends failed.failed record {
         input = input;

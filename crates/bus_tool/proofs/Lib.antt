@@ -5,3 +5,4 @@ pub mod Ranges
 pub mod Serving
 pub mod WrittenLines
 pub mod Without
+pub mod TablesRun

@@ -2,6 +2,7 @@
 use Rattle.std.specs.Prelude.{◌≡◌, ℕ, ◌≤◌, ◌⊎◌, List, Option, Some, None, Ok}
 use Rattle.std.specs.Io.KnownBytes.{Appends}
 use Rattle.bus_outside.specs.Causes.{Rose, GrowsByFront}
+use Rattle.bus_formats.specs.Accepted.{IsAccepted}
 use Rattle.bus_formats.specs.Plans.{PlanData}
 use Rattle.bus_formats.specs.declared.log.Delivery.{Delivery}
 use Rattle.bus_line.specs.declared.cutter.TheConstants.{LAG}
@@ -65,6 +66,7 @@ module _ (held0 held1 : Option (List ℕ)) (sink0 sink1 : ℕ) (status : ℕ) (b
     pub accepted : input_refusal input ≡ None
     pub plan : PlanData
     pub read : plan_of_bytes input ≡ Ok plan
+    pub is_accepted : IsAccepted plan
     pub ticks : ℕ
     pub ends : EndsAfter (plan_run text plan) 0 ticks
     pub objects : AfterRun told0 told1 said0 said1 spare0 spare1 text (plan_run text plan) ticks

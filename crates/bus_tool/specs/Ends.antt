@@ -17,9 +17,11 @@ use Rattle.bus_outside.specs.Causes.{Rose, GrowsByFront}
 use Rattle.bus_plan.specs.PlanOf.{plan_of_bytes}
 use Rattle.bus_run.specs.Stands.{EndsAfter, FinishedStands}
 use Rattle.bus_run.specs.declared.finished.FinishedBus.{FinishedBus}
+use Rattle.bus_law_told.specs.Plain.{IsPlain}
 use Rattle.bus_tool.specs.Answers.{WroteDue}
 use Rattle.bus_tool.specs.Due.{limit, input_refusal, words_refused, capture_refusal_line, IsDue}
 use Rattle.bus_tool.specs.Objects.{AreSame, AfterRun, AfterWant}
+use Rattle.bus_tool.specs.Tables.{IsTablesRun}
 use Rattle.bus_tool.specs.Texts.{plan_run, text_of, status_of}
 use Rattle.bus_tool.specs.declared.words.Command.{Command}
 use Rattle.bus_tool.specs.declared.words.Command.TheVariants as commands
@@ -82,6 +84,9 @@ module _ (left0 left1 held0 held1 : Option (List ℕ)) (source0 source1 sink0 si
     pub objects : AfterRun told0 told1 said0 said1 spare0 spare1 text (plan_run text plan) ticks
     pub status_is : status ≡ status_of (world_log LAG (plan_run text plan) ticks)
     pub written : Appends held0 held1 (text_of text (plan_run text plan) ticks said1)
+    -- where no message may be abandoned and none offers control, the run is that of the message table: it ends there, its text and status are
+    -- those of the table's log, and no two stations ever drove one channel
+    pub tables : IsPlain plan → IsTablesRun text (plan_run text plan) ticks said1 status
 
   -- the input was read and is refused, the refusal's line was written, and the objects stay
   pub record WasRefused : Type 0 where

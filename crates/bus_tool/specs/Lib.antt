@@ -6,3 +6,4 @@ pub mod Ends
 pub mod Answers
 pub mod CaptureWriters
 pub mod Captured
+pub mod Tables

@@ -6,4 +6,4 @@ returns-in-Err-Memory g c = wants-at-once _ _ _ _ _ c.args.text c.args.input.now
 
 pub returns-in-Ok : goal.returns-in-Ok
 returns-in-Ok g c =
-    answers-input _ _ _ _ _ _ _ _ _ _ _ _ c.args.text c.in-Ok.plan c.args.input.now c.if-input-gt-LIMIT.false c.in-Ok.ensures.ok c.run_plan.ensures
+    answers-input _ _ _ _ _ _ _ _ _ _ _ _ c.args.text c.in-Ok.plan c.args.input.now c.if-input-gt-LIMIT.false c.in-Ok.ensures.ok c.in-Ok.ensures.accepted c.run_plan.ensures
