@@ -19,6 +19,7 @@ use Rattle.bus_run.specs.Deliveries.{delivering}
 use Rattle.bus_run.specs.Ends.{has_ended, is_outgrown}
 use Rattle.bus_run.specs.Stands.{EndsAfter}
 use Rattle.bus_law_run.specs.WorldIsRun.{plan_end, WorldIsRun, IsWithin}
+use Rattle.bus_law_ends.specs.Bounds.{HasTableBounds}
 use Rattle.bus_law_ends.specs.Told.{RunIsTold}
 use Rattle.bus_law_ends.proofs.Delivering.{delivering-few}
 
@@ -48,6 +49,9 @@ module _ (plan : PlanData) (accepted : IsAccepted plan) where
       (let few = (plan-few plan accepted).1 in omega (arith, few, same-ticks, attempts-low))
       ∙ ap (λ n. 88 + n + 10000 * most_attempts plan) same-ticks
       ∙ ap (λ n. 88 + sum_by station_ticks plan.stations + 10000 * n) same-attempts
+
+  pub table-bounds : HasTableBounds plan
+  table-bounds = record { attempts = same-attempts; ticks = ticks-are }
 
 -- ---- no tick before the end of the table's run is the end
 

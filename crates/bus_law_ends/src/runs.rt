@@ -1,8 +1,13 @@
 //! The end of a run. Laws alone, each the contract of a function that does nothing.
 
-ghost use Rattle.std.specs.Prelude.{ℕ};
+ghost use Rattle.std.specs.Prelude.{ℕ, ◌≤◌, List, length};
+ghost use Rattle.bus_base.specs.declared.samples.Pair.{Pair};
 ghost use Rattle.bus_formats.specs.Accepted.{IsAccepted};
 ghost use Rattle.bus_formats.specs.Plans.{PlanData};
+ghost use Rattle.bus_line.specs.Channels.{bursts};
+ghost use Rattle.bus_line.specs.declared.cutter.TheConstants.{LAG};
+ghost use Rattle.bus_run.specs.Deliveries.{delivering};
+ghost use Rattle.bus_law_ends.specs.Bounds.{HasTableBounds};
 ghost use Rattle.bus_law_told.specs.Plain.{IsPlain};
 ghost use Rattle.bus_law_ends.specs.Told.{RunIsTold};
 ghost use Rattle.bus_run.specs.Stands.{EndsAfter};
@@ -16,3 +21,10 @@ pub fn a_plain_run_is_told()
 {
     the_world_does_what_its_run_says();
 }
+
+/// The bounds of the program's run are those of the message table, for every accepted plan. And in whatever world of whatever plan, terminals take blocks in
+/// no more ticks than bursts are found.
+pub fn the_bounds_are_the_tables()
+    ensures bounds { (plan : PlanData) → IsAccepted plan → HasTableBounds plan }
+    ensures deliveries { (plan : PlanData) (past : List Pair) → delivering plan past ≤ length (bursts LAG past) }
+{}
