@@ -6,3 +6,5 @@ pub mod FrontLaws
 pub mod LineLaws
 pub mod OffsetTexts
 pub mod OffsetLaws
+pub mod Masks
+pub mod Fronts

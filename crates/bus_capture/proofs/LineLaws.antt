@@ -56,7 +56,7 @@ level-is byte false false false p m q is = absurd (cc)
 level-same : (byte : ℕ) → is_sample byte ≡ true → sample_of byte ≡ Some (level byte)
 level-same byte is = level-is byte (byte == 43) (byte == 45) (byte == 46) refl refl refl is
 
-samples-read : (n : ℕ) (bytes : List ℕ) → length bytes ≡ 2 * n → are_samples bytes ≡ true → ReadsTicks bytes (reverse (pairs_in bytes))
+pub samples-read : (n : ℕ) (bytes : List ℕ) → length bytes ≡ 2 * n → are_samples bytes ≡ true → ReadsTicks bytes (reverse (pairs_in bytes))
 samples-read zero [] long is = quiet-none
 samples-read zero (a ∷ bytes) long is = absurd (omega (arith, long))
 samples-read (suc n) [] long is = absurd (omega (arith, long))

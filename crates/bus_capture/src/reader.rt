@@ -18,10 +18,12 @@ ghost use Rattle.bus_capture.specs.Readings.{
 ghost use Rattle.bus_capture.specs.Reader.{ReaderStands, after_byte};
 ghost use Rattle.bus_base.specs.Samples.{quiet_pairs};
 ghost use Rattle.bus_capture.specs.Quiet.{ReadsQuiet, IsStep, IsFront, step_in, are_stops, is_sample, are_samples, level, pairs_in, four_quiet, tick_front};
+ghost use Rattle.bus_capture.specs.Blocks.{ticks_of};
 ghost use Rattle.bus_capture.specs.Readings.{text_limit};
 ghost use Rattle.bus_capture.specs.declared.reader.Place.TheVariants.{Between};
 ghost use Rattle.std.specs.Prelude.{IsTrue, true};
 
+use crate::block::{Block, BlockRun, front_block};
 use crate::refusal::CaptureRefusal;
 use bus_base::{Pair, Sample};
 
@@ -141,6 +143,30 @@ impl CaptureReader {
         let run = front_ticks(piece, ticks);
         self.at = self.at.saturating_add(run.bytes as u64);
         self.ticks = self.ticks.saturating_add(run.ticks as u64);
+        run
+    }
+
+    /// Takes the ticks at the front of a piece of the text as bits, up to 64 and up to the end of a line, with its line feed, as `push` would take them
+    /// byte by byte. None where the text stands elsewhere than between two ticks, or fewer than 128 bytes are left.
+    #[inline(always)]
+    pub fn read_block(&mut self, piece: &[u8]) -> BlockRun
+        ensures within { result.bytes ≤ length piece.now }
+        ensures few { result.block.ticks ≤ 64 }
+        ensures stands { (bytes : List ℕ) → ReaderStands self.old bytes → ReaderStands self.new (reverse (take result.bytes piece.now) ++ bytes) }
+        ensures ticks { (bytes : List ℕ) → ReaderStands self.old bytes →
+            ticks_in (reverse (take result.bytes piece.now) ++ bytes) ≡ reverse (ticks_of result.block) ++ ticks_in bytes }
+        ensures place { (bytes : List ℕ) → ReaderStands self.old bytes →
+            place_after (reverse (take result.bytes piece.now) ++ bytes) ≡ place_after bytes }
+    {
+        if !self.stands_between(piece.len()) {
+            return BlockRun {
+                block: Block::none(),
+                bytes: 0,
+            };
+        }
+        let run = front_block(piece);
+        self.at = self.at.saturating_add(run.bytes as u64);
+        self.ticks = self.ticks.saturating_add(u64::from(run.block.ticks));
         run
     }
 

@@ -9,10 +9,11 @@ use Rattle.bus_base.specs.declared.samples.Pair.{Pair}
 use Rattle.bus_base.specs.Samples.{quiet_pairs}
 use Rattle.bus_line.specs.Past.{runs, first_tick, quiet_ticks, heard_or_now}
 use Rattle.bus_line.specs.Channels.{on_channel}
-use Rattle.bus_line.specs.Cutting.{CutterStands, cut_now}
+use Rattle.bus_line.specs.Cutting.{cut_now}
+use Rattle.bus_planes.specs.Cutting.{BitCutterStands}
 use Rattle.bus_line.specs.declared.cutter.TheConstants.{LAG}
 use Rattle.bus_line.specs.declared.cutter.Cut.TheVariants as cuts
-use Rattle.bus_line.proofs.CutLaws.{stands-quiet}
+use Rattle.bus_planes.proofs.CutLaws.{stands-quiet}
 use Rattle.bus_line.proofs.CutNow.{now-idle}
 use Rattle.bus_monitor.specs.Awaited.{kept_in_time}
 use Rattle.bus_monitor.specs.Channels.{ChannelListerStands, is_idle_on}
@@ -26,7 +27,7 @@ use Rattle.bus_monitor.proofs.LineLaws.{message_lines-grow}
 use Rattle.bus_monitor.proofs.ListerLaws.{nothing-closed, nothing-stands}
 use Rattle.bus_monitor.proofs.QuietLaws.{on-quiet, long-more}
 
-none-if : {T : Type 0} (test : Bool) (x : T) → (if test then Some x else None) ≡ None → test ≡ false
+pub none-if : {T : Type 0} (test : Bool) (x : T) → (if test then Some x else None) ≡ None → test ≡ false
 none-if true x is = absurd (cc)
 none-if false x is = refl
 
@@ -60,7 +61,7 @@ pub idle-tick : (lister : ChannelLister) (past : List Sample) → lister.running
 idle-tick lister past rests none s =
     let off : runs LAG past ≡ false = none-if (runs LAG past) (first_tick LAG past) (sym s.running ∙ rests) in
     let is : cuts.Nothing ≡ cut_now LAG (Quiet ∷ past) = sym (now-idle LAG past off) in
-    let cutter : CutterStands LAG lister.cutter (Quiet ∷ past) = stands-quiet LAG lister.cutter past 1 off s.cutter in
+    let cutter : BitCutterStands LAG lister.cutter (Quiet ∷ past) = stands-quiet LAG lister.cutter past 1 off s.cutter in
     let now : ℕ = length past in
     let same : heard_or_now Quiet now lister.running ≡ lister.running = stays-none now lister.running rests in
     let next : ChannelListerStands (record lister {
@@ -119,7 +120,7 @@ messages-skip lister n past idle s =
     }
 
 -- no line is completed
-no-lines : (c : _) (closed : List Closed) → closed ≡ [] → flat_map (λ l. l.text) (map (closed_line c) closed) ≡ []
+pub no-lines : (c : _) (closed : List Closed) → closed ≡ [] → flat_map (λ l. l.text) (map (closed_line c) closed) ≡ []
 no-lines c closed is = rw is refl
 
 pub messages-quiet : (lister : MessageLister) (n : ℕ) (past : List Pair) → AreIdle lister → MessageListerStands lister past →

@@ -15,3 +15,5 @@ pub mod StepLaws
 pub mod ListerLaws
 pub mod OpenLaws
 pub mod TickLaws
+pub mod PartLaws
+pub mod StayLaws

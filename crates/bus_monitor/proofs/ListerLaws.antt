@@ -4,11 +4,12 @@ use Rattle.std.specs.Prelude.{true, is_some, if◌then◌else◌, Option, Some, 
 use Rattle.bus_base.specs.declared.samples.Sample.{Sample}
 use Rattle.bus_words.specs.declared.word.Word.{Word}
 use Rattle.bus_line.specs.Past.{Burst, runs, first_tick, ended_now, newest_burst, end_of, rest_of, heard_or_now}
-use Rattle.bus_line.specs.Cutting.{CutterStands, cut_now, running_slots, Tells, Collects, Closes}
+use Rattle.bus_line.specs.Cutting.{cut_now, running_slots, Tells, Collects, Closes}
+use Rattle.bus_planes.specs.Cutting.{BitCutterStands}
 use Rattle.bus_line.specs.declared.cutter.TheConstants.{LAG}
 use Rattle.bus_line.specs.declared.cutter.Cut.{Cut}
 use Rattle.bus_line.specs.declared.cutter.Cut.TheVariants as cuts
-use Rattle.bus_line.specs.declared.cutter.Cutter.{Cutter}
+use Rattle.bus_planes.specs.declared.cutter.BitCutter.{BitCutter}
 use Rattle.bus_line.proofs.CutNow.{cut-tells}
 use Rattle.bus_line.proofs.CollectLaws.{cut-collects, end-closes, slot-fills}
 use Rattle.bus_formats.specs.Times.{no_response}
@@ -24,10 +25,10 @@ use Rattle.bus_monitor.proofs.PastLaws as past_laws
 use Rattle.bus_monitor.proofs.AwaitedLaws.{closed-end, awaited-end, closed-time, awaited-time}
 use Rattle.bus_monitor.proofs.StepLaws.{running-is, running-step, some-if, kept-more, next-closed, next-waits}
 
-tells-cut : (k : ℕ) (x : Sample) (past : List Sample) (cut : Cut) → cut ≡ cut_now k (x ∷ past) → Tells k (x ∷ past) cut
+pub tells-cut : (k : ℕ) (x : Sample) (past : List Sample) (cut : Cut) → cut ≡ cut_now k (x ∷ past) → Tells k (x ∷ past) cut
 tells-cut k x past cut is = subst (λ (c : Cut). Tells k (x ∷ past) c) (sym is) (cut-tells k (x ∷ past))
 
-collects-cut : (k : ℕ) (x : Sample) (past : List Sample) (cut : Cut) → k ≤ 39 → cut ≡ cut_now k (x ∷ past) →
+pub collects-cut : (k : ℕ) (x : Sample) (past : List Sample) (cut : Cut) → k ≤ 39 → cut ≡ cut_now k (x ∷ past) →
     Collects cut (running_slots k past) (running_slots k (x ∷ past))
 collects-cut k x past cut small is =
     subst (λ (c : Cut). Collects c (running_slots k past) (running_slots k (x ∷ past))) (sym is) (cut-collects k x past small)
@@ -101,8 +102,8 @@ pub nothing-waited : (lister : ChannelLister) (x : Sample) (past : List Sample) 
 nothing-waited lister x past now s here is =
     is-waited LAG x past now lister.running lister.waiting (tells-cut LAG x past cuts.Nothing is).0 here s.running s.waiting
 
-pub nothing-stands : (lister : ChannelLister) (cutter : Cutter) (x : Sample) (past : List Sample) (now : ℕ) → ChannelListerStands lister past →
-    length past ≡ now → cuts.Nothing ≡ cut_now LAG (x ∷ past) → CutterStands LAG cutter (x ∷ past) →
+pub nothing-stands : (lister : ChannelLister) (cutter : BitCutter) (x : Sample) (past : List Sample) (now : ℕ) → ChannelListerStands lister past →
+    length past ≡ now → cuts.Nothing ≡ cut_now LAG (x ∷ past) → BitCutterStands LAG cutter (x ∷ past) →
     ChannelListerStands (record lister {
       cutter = cutter;
       running = heard_or_now x now lister.running;
@@ -122,11 +123,11 @@ pub nothing-closed : (lister : ChannelLister) (x : Sample) (past : List Sample) 
 nothing-closed lister x past now s here is = (nothing-waited lister x past now s here is).closed
 
 -- while a burst runs nothing closes in time
-runs-closed : (now : ℕ) (waiting : Option Waiting) → closed_in_time now true waiting ≡ []
+pub runs-closed : (now : ℕ) (waiting : Option Waiting) → closed_in_time now true waiting ≡ []
 runs-closed now None = refl
 runs-closed now (Some w) = refl
 
-runs-keeps : (now : ℕ) (waiting : Option Waiting) → kept_in_time now true waiting ≡ waiting
+pub runs-keeps : (now : ℕ) (waiting : Option Waiting) → kept_in_time now true waiting ≡ waiting
 runs-keeps now None = refl
 runs-keeps now (Some w) = refl
 
@@ -143,8 +144,8 @@ slot-closed x past i word is =
     let on : runs LAG (x ∷ past) ≡ true = (runs-on LAG x past at.0).on at.1 in
     sym (closed-time LAG x past at.0 ∙ ap (λ b. closed_in_time (length past) b (awaited LAG past)) on ∙ runs-closed (length past) (awaited LAG past))
 
-pub slot-stands : (lister : ChannelLister) (cutter : Cutter) (x : Sample) (past : List Sample) (i : ℕ) (word : Option Word) →
-    ChannelListerStands lister past → cuts.Slot i word ≡ cut_now LAG (x ∷ past) → CutterStands LAG cutter (x ∷ past) →
+pub slot-stands : (lister : ChannelLister) (cutter : BitCutter) (x : Sample) (past : List Sample) (i : ℕ) (word : Option Word) →
+    ChannelListerStands lister past → cuts.Slot i word ≡ cut_now LAG (x ∷ past) → BitCutterStands LAG cutter (x ∷ past) →
     ChannelListerStands (record lister { cutter = cutter; slots = record { items = kept_with lister.slots.items word } }) (x ∷ past)
 slot-stands lister cutter x past i word s is stands =
     let at = slot-runs x past i word is in
@@ -173,8 +174,8 @@ pub end-closed : (w : Option Waiting) (x : Sample) (past : List Sample) (now res
     (e : IsEnded LAG x past rest) → closed_in (burst_next w e.first (now - LAG) now (running_slots LAG past) rest) ≡ closed_now LAG (x ∷ past)
 end-closed w x past now rest waits here e = ap closed_in (end-next w past now e.first rest waits here) ∙ e.closed
 
-pub end-stands : (lister : ChannelLister) (cutter : Cutter) (x : Sample) (past : List Sample) (now rest : ℕ) → ChannelListerStands lister past →
-    length past ≡ now → (e : IsEnded LAG x past rest) → CutterStands LAG cutter (x ∷ past) →
+pub end-stands : (lister : ChannelLister) (cutter : BitCutter) (x : Sample) (past : List Sample) (now rest : ℕ) → ChannelListerStands lister past →
+    length past ≡ now → (e : IsEnded LAG x past rest) → BitCutterStands LAG cutter (x ∷ past) →
     ChannelListerStands (record lister {
       cutter = cutter;
       running = None;

@@ -10,7 +10,7 @@ use Rattle.bus_monitor.specs.Scribes.{Follows, Took, TookSome}
 use Rattle.bus_monitor.proofs.WriterLaws.{took-later, reverse-rest}
 
 -- the bytes of two parts, the newest first
-pub reverse-parts : (xs bytes : List ℕ) (i n : ℕ) → reverse (take n (drop i xs)) ++ (reverse (take i xs) ++ bytes) ≡ reverse (take (i + n) xs) ++ bytes
+pub reverse-parts : {A : Type 0} → (xs bytes : List A) (i n : ℕ) → reverse (take n (drop i xs)) ++ (reverse (take i xs) ++ bytes) ≡ reverse (take (i + n) xs) ++ bytes
 reverse-parts xs bytes i n =
     sym (append_assoc (reverse (take n (drop i xs))) (reverse (take i xs)) bytes)
     ∙ ap (λ ys. ys ++ bytes) (sym (reverse-append (take i xs) (take n (drop i xs))) ∙ ap reverse (sym (take-add i n xs)))

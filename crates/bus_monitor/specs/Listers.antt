@@ -1,10 +1,10 @@
 -- For which pasts the listers stand.
-use Rattle.std.specs.Prelude.{◌≡◌, ◌≤◌, ◌⊎◌, ℕ, ◌+◌, ◌-◌, min, if◌then◌else◌, List, length, Option, None}
+use Rattle.std.specs.Prelude.{◌≡◌, ℕ, ◌-◌, List, length, Option, None}
 use Rattle.bus_base.specs.declared.samples.Channel.{Channel}
 use Rattle.bus_base.specs.declared.samples.Channel.TheVariants.{A, B}
 use Rattle.bus_base.specs.declared.samples.Pair.{Pair}
-use Rattle.bus_line.specs.Channels.{on_channel, both_quiet, quiet_both}
-use Rattle.bus_line.specs.Cutting.{CutterStands}
+use Rattle.bus_line.specs.Channels.{on_channel}
+use Rattle.bus_planes.specs.Cutting.{BitCutterStands}
 use Rattle.bus_line.specs.declared.cutter.TheConstants.{LAG}
 use Rattle.bus_line.specs.declared.cutter.Cut.{Cut}
 use Rattle.bus_line.specs.declared.cutter.Cut.TheVariants as cuts
@@ -21,16 +21,11 @@ abbrev pub heard_in : Cut → Channel → ℕ → Option Heard
 heard_in (cuts.Slot i word) c tick = heard_at c (tick - 39) word
 heard_in _ c tick = None
 
--- the quiet ticks in a row, up to one more than the lag, with one tick more
-abbrev pub quiet_next : ℕ → Pair → ℕ
-quiet_next quiet heard = if both_quiet heard then min (min (quiet + 1) 255) (LAG + 1) else 0
-
 -- the lister stands for what both channels showed
 pub record WordListerStands (lister : WordLister) (past : List Pair) : Type 0 where
-  pub a : CutterStands LAG lister.a (on_channel A past)
-  pub b : CutterStands LAG lister.b (on_channel B past)
+  pub a : BitCutterStands LAG lister.a (on_channel A past)
+  pub b : BitCutterStands LAG lister.b (on_channel B past)
   pub ticks : lister.ticks ≡ length past
-  pub quiet_is : (lister.quiet ≤ quiet_both past) ⊎ (quiet_both past ≡ length past)
 
 -- ---- messages
 

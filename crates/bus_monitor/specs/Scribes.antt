@@ -38,7 +38,7 @@ pub record FrontListed (lines : List Pair → List ℕ) (past : List Pair) (firs
 
 -- of a text that gets long: it has room again, or a front of it was written
 abbrev pub OwedSo : {T : Type 0} → List ℕ → List ℕ → Option (List ℕ) → Option (List ℕ) → Result T Stop → Type 0
-OwedSo all text first held (Ok _) = Owed all text first held × (length text ≤ 300)
+OwedSo all text first held (Ok _) = Owed all text first held × (length text ≤ 3700)
 OwedSo all text first held (Err (Refused refusal)) = ⊥
 OwedSo all text first held (Err WriteFault) = GrowsByFront first held all
 
@@ -47,7 +47,7 @@ module _ {L : Type 0} (stands : L → List Pair → Type 0) (lines : List Pair �
   pub record Lists : Type 0 where
     pub lister : stands writer.lister past
     pub written : Owed (lines past) writer.text first held
-    pub room : length writer.text ≤ 300
+    pub room : length writer.text ≤ 3700
 
   -- after more ticks: it went on, or a write failed
   abbrev pub Listed : {T : Type 0} → Result T Stop → Type 0
@@ -66,7 +66,7 @@ module _ {L : Type 0} (stands : L → List Pair → Type 0) (lines : List Pair �
   -- and its text has room for another tick's lines
   pub record Follows : Type 0 where
     pub holds : Holds
-    pub room : length writer.text ≤ 300
+    pub room : length writer.text ≤ 3700
 
   -- after more bytes: it went on, or a byte was refused, or a write failed
   abbrev pub Took : {T : Type 0} → Result T Stop → Type 0

@@ -1,5 +1,5 @@
 //! The messages of one channel, tick by tick.
-ghost use Rattle.std.specs.Prelude.{◌≡◌, ◌+◌, ◌-◌, ◌≤◌, ◌<◌, ◌^◌, ◌++◌, true, ℕ, List, [], ◌∷◌, length, take, false, is_some, option_to_list, Option, Some, None};
+ghost use Rattle.std.specs.Prelude.{◌≡◌, ◌+◌, ◌-◌, ◌≤◌, ◌<◌, ◌^◌, ◌++◌, true, ℕ, List, [], ◌∷◌, length, take, reverse, false, is_some, option_to_list, Option, Some, None};
 ghost use Rattle.bus_base.specs.declared.samples.Sample.{Sample};
 ghost use Rattle.bus_line.specs.Past.{heard_or_now};
 ghost use Rattle.bus_line.specs.declared.cutter.TheConstants.{LAG};
@@ -8,20 +8,23 @@ ghost use Rattle.bus_monitor.specs.Awaited.{kept_in_time, open_of};
 ghost use Rattle.bus_monitor.specs.Progress.{closed_now, closed_in_time};
 ghost use Rattle.bus_monitor.specs.Steps.{is_over, kept_with, closed_in, waits_in, burst_next, closed_lines};
 ghost use Rattle.bus_monitor.specs.Channels.{ChannelListerStands, is_idle_on};
+ghost use Rattle.bus_monitor.specs.Parts.{InTime, CloseNone};
+ghost use Rattle.bus_planes.specs.Still.{IsStill, samples_in};
 
 use crate::closed::Closed;
 use crate::message_text::add_closed;
+use crate::page::Page;
 use crate::waiting::{Next, Waiting, take_burst};
 use arrayvec::ArrayVec;
 use bus_base::{Channel, Sample};
-use bus_line::{Cut, Cutter, LAG};
-use bus_text::Line;
+use bus_line::{Cut, LAG};
+use bus_planes::BitCutter;
 use bus_words::Word;
 
 /// Tells the messages of one channel where they close. It takes no memory.
 #[derive(Drop)]
 pub(crate) struct ChannelLister {
-    cutter: Cutter,
+    cutter: BitCutter,
     // the first tick of the burst that runs, and its first whole slots
     running: Option<u64>,
     slots: ArrayVec<Option<Word>, 34>,
@@ -35,7 +38,7 @@ impl ChannelLister {
         ensures { ChannelListerStands result [] }
     {
         ChannelLister {
-            cutter: Cutter::new(),
+            cutter: BitCutter::new(),
             running: None,
             slots: ArrayVec::new(),
             waiting: None,
@@ -44,9 +47,9 @@ impl ChannelLister {
 
     /// Hears what the channel shows in tick `now`, and adds the line of the message that closes in this tick, if one does.
     #[inline(always)]
-    pub(crate) fn list(&mut self, channel: Channel, now: u64, sample: Sample, text: &mut Line)
+    pub(crate) fn list(&mut self, channel: Channel, now: u64, sample: Sample, text: &mut Page)
         requires past { (past : List Sample) × ChannelListerStands self.old past × (length past ≡ now) × (now < 2 ^ 60) }
-        requires room { length text.old ≤ 400 }
+        requires room { length text.old ≤ 3900 }
         ensures text { (past : List Sample) → ChannelListerStands self.old past → length past ≡ now →
             text.new ≡ text.old ++ closed_lines channel (closed_now LAG (sample ∷ past)) }
         ensures grows { length text.new ≤ length text.old + 100 }
@@ -58,6 +61,37 @@ impl ChannelLister {
             Cut::Slot { word, .. } => self.keep(word),
             Cut::Ended { rest, .. } => self.close_burst(channel, now, rest, text),
         }
+    }
+
+    /// How many of the ticks from `now` on tell nothing and close no message, as far as is looked. Bit i of `heard` is the i-th of them:
+    /// whether the channel wasn't quiet.
+    #[inline(always)]
+    pub(crate) fn still(&self, heard: u64, now: u64) -> u32
+        ensures still { (n : ℕ) → n ≤ result → IsStill LAG self.now.cutter heard n }
+        ensures time { (n : ℕ) → 0 < n → n ≤ result → InTime self.now now n }
+    {
+        let ticks = self.cutter.still(heard);
+        if self.running.is_some() {
+            return ticks;
+        }
+        match &self.waiting {
+            Some(waiting) => ticks.min(waiting.left(now)),
+            None => ticks,
+        }
+    }
+
+    /// Hears so many ticks at once, which tell nothing and close no message.
+    #[inline(always)]
+    pub(crate) fn pass(&mut self, heard: u64, plus: u64, ticks: u32)
+        requires some { 0 < ticks }
+        requires still { IsStill LAG self.old.cutter heard ticks }
+        requires past { (past : List Sample) × ChannelListerStands self.old past }
+        ensures stands { (past : List Sample) → ChannelListerStands self.old past → InTime self.old (length past) ticks →
+            ChannelListerStands self.new (reverse (samples_in heard plus ticks) ++ past) }
+        ensures closes { (past : List Sample) → ChannelListerStands self.old past → InTime self.old (length past) ticks →
+            CloseNone (reverse (samples_in heard plus ticks)) past }
+    {
+        self.cutter.pass(heard, plus, ticks);
     }
 
     /// Whether no burst runs and no message waits: then a quiet tick changes nothing, and closes none.
@@ -86,8 +120,8 @@ impl ChannelLister {
 
     // Nothing became known of a burst. One runs, or begins in this tick, or the time for an answer runs.
     #[inline(always)]
-    fn wait(&mut self, channel: Channel, now: u64, sample: Sample, text: &mut Line)
-        requires { length text.old ≤ 400 }
+    fn wait(&mut self, channel: Channel, now: u64, sample: Sample, text: &mut Page)
+        requires { length text.old ≤ 3900 }
         ensures text { text.new ≡ text.old ++ closed_lines channel (closed_in_time now (is_some (heard_or_now sample now self.old.running)) self.old.waiting) }
         ensures grows { length text.new ≤ length text.old + 100 }
         ensures keeps { self.new ≡ record self.old {
@@ -105,8 +139,8 @@ impl ChannelLister {
     }
 
     // No burst runs. A message that waited for its time closes.
-    fn wait_in_quiet(&mut self, channel: Channel, now: u64, text: &mut Line)
-        requires { length text.old ≤ 400 }
+    fn wait_in_quiet(&mut self, channel: Channel, now: u64, text: &mut Page)
+        requires { length text.old ≤ 3900 }
         ensures text { text.new ≡ text.old ++ closed_lines channel (closed_in_time now false self.old.waiting) }
         ensures grows { length text.new ≤ length text.old + 100 }
         ensures keeps { self.new ≡ record self.old { waiting = kept_in_time now false self.old.waiting } }
@@ -137,8 +171,8 @@ impl ChannelLister {
 
     // The burst that ran has ended: adds the line of the message that closes with it. A call of its own, since few ticks end a burst.
     #[inline(never)]
-    fn close_burst(&mut self, channel: Channel, now: u64, rest: u8, text: &mut Line)
-        requires { length text.old ≤ 400 }
+    fn close_burst(&mut self, channel: Channel, now: u64, rest: u8, text: &mut Page)
+        requires { length text.old ≤ 3900 }
         ensures text { (first : ℕ) (whole : List (Option Word)) → self.old.running ≡ Some first → self.old.slots.items ≡ take 34 whole →
             text.new ≡ text.old ++ closed_lines channel (closed_in (burst_next self.old.waiting first (now - LAG) now whole rest)) }
         ensures grows { length text.new ≤ length text.old + 100 }

@@ -1,6 +1,8 @@
 //! The reading half of both listings: bytes become ticks, ticks become lines, lines go to the sink.
 ghost use Rattle.std.specs.Prelude.{◌≡◌, ◌<◌, ◌≤◌, ◌+◌, ◌^◌, ◌⊎◌, ℕ, Bool, true, List, [], ◌∷◌, ◌++◌, length, reverse, take, Option};
 ghost use Rattle.bus_base.specs.Samples.{quiet_pairs};
+ghost use Rattle.bus_capture.specs.Blocks.{ticks_of};
+ghost use Rattle.bus_monitor.specs.Parts.{part};
 ghost use Rattle.bus_base.specs.declared.samples.Pair.{Pair};
 ghost use Rattle.std.specs.Io.KnownBytes.{IsAtEnd};
 ghost use Rattle.bus_outside.specs.Causes.{WriteAdds, HasCause, Rose};
@@ -23,10 +25,10 @@ ghost use Rattle.bus_monitor.specs.Scribes.{
 };
 
 use crate::Listing;
+use crate::page::Page;
 use bus_base::{Pair, Sample};
-use bus_capture::{CaptureReader, CaptureRefusal};
+use bus_capture::{Block, CaptureReader, CaptureRefusal};
 use bus_outside::{Failed, Sink, Source};
-use bus_text::Line;
 
 /// What makes lines of ticks.
 pub(crate) trait Lister {
@@ -53,19 +55,28 @@ pub(crate) trait Lister {
         ensures stands { (past : List Pair) → stands self.old past → stands self.new (quiet_pairs ticks ++ past) }
         ensures lines { (past : List Pair) → stands self.old past → lines (quiet_pairs ticks ++ past) ≡ lines past };
 
+    /// Hears the ticks of a block from one on that complete no line, as far as is looked. How many.
+    fn pass(&mut self, block: &Block, at: u32) -> u32
+        requires at { at < block.now.ticks }
+        requires few { block.now.ticks ≤ 64 }
+        requires past { (past : List Pair) × stands self.old past × (length past + 64 < 2 ^ 60) }
+        ensures within { result + at ≤ block.now.ticks }
+        ensures stands { (past : List Pair) → stands self.old past → stands self.new (part block.now at result ++ past) }
+        ensures lines { (past : List Pair) → stands self.old past → lines (part block.now at result ++ past) ≡ lines past };
+
     /// Hears a tick, and adds the lines that it completes to the text.
-    fn list(&mut self, shown: Pair, text: &mut Line)
+    fn list(&mut self, shown: Pair, text: &mut Page)
         requires past { (past : List Pair) × stands self.old past × (length past < 2 ^ 60) }
-        requires room { length text.old ≤ 300 }
+        requires room { length text.old ≤ 3700 }
         ensures stands { (past : List Pair) → stands self.old past → stands self.new (shown ∷ past) }
         ensures lines { (past : List Pair) → stands self.old past →
             (added : List ℕ) × (lines (shown ∷ past) ≡ lines past ++ added) × (text.new ≡ text.old ++ added) }
         ensures grows { length text.new ≤ length text.old + 200 };
 
     /// Adds the lines that the end of the ticks adds to the text.
-    fn finish(&self, text: &mut Line)
+    fn finish(&self, text: &mut Page)
         requires past { (past : List Pair) × stands self.now past × (length past < 2 ^ 60) }
-        requires room { length text.old ≤ 300 }
+        requires room { length text.old ≤ 3700 }
         ensures { (past : List Pair) → stands self.now past →
             (added : List ℕ) × (whole past ≡ lines past ++ added) × (text.new ≡ text.old ++ added) };
 }
@@ -82,7 +93,7 @@ pub(crate) enum Stop {
 pub(crate) struct ListingWriter<L> {
     pub(crate) reader: CaptureReader,
     pub(crate) lister: L,
-    pub(crate) text: Line,
+    pub(crate) text: Page,
 }
 
 impl<L: Lister> ListingWriter<L> {
@@ -95,7 +106,7 @@ impl<L: Lister> ListingWriter<L> {
         ListingWriter {
             reader: CaptureReader::new(),
             lister,
-            text: Line::new(),
+            text: Page::new(),
         }
     }
 
@@ -148,8 +159,62 @@ impl<L: Lister> ListingWriter<L> {
         }
     }
 
-    // Takes the ticks at the front of a piece, or the byte, where no whole tick stands there. How many bytes it took.
+    // Takes a block of ticks at the front of a piece, or what else stands there. How many bytes it took.
     fn take_next<K: Sink>(&mut self, piece: &[u8], sink: &mut K) -> Result<usize, Stop>
+        requires some { 0 < length piece.now }
+        requires follows { (bytes : List ℕ) × (first : Option (List ℕ)) × Follows L.stands L.lines self.old bytes first (K.held sink.old) }
+        ensures took { (bytes : List ℕ) (first : Option (List ℕ)) → Follows L.stands L.lines self.old bytes first (K.held sink.old) →
+            TookSome L.stands L.lines self.new piece.now bytes first (K.held sink.new) result }
+        ensures cause { FaultHasCause (K.faults sink.old) (K.faults sink.new) result }
+    {
+        match self.take_block(piece, sink) {
+            Ok(0) => self.take_slowly(piece, sink),
+            Ok(count) => Ok(count),
+            Err(stop) => Err(stop),
+        }
+    }
+
+    // Takes the ticks at the front of a piece as bits, where at least a line is left of it. How many bytes it took.
+    #[inline(always)]
+    fn take_block<K: Sink>(&mut self, piece: &[u8], sink: &mut K) -> Result<usize, Stop>
+        requires { (bytes : List ℕ) × (first : Option (List ℕ)) × Follows L.stands L.lines self.old bytes first (K.held sink.old) }
+        ensures took { (bytes : List ℕ) (first : Option (List ℕ)) → Follows L.stands L.lines self.old bytes first (K.held sink.old) →
+            TookFront L.stands L.lines self.new piece.now bytes first (K.held sink.new) result }
+        ensures cause { FaultHasCause (K.faults sink.old) (K.faults sink.new) result }
+    {
+        let run = self.reader.read_block(piece);
+        match self.list_block(&run.block, sink) {
+            Ok(()) => Ok(run.bytes),
+            Err(stop) => Err(stop),
+        }
+    }
+
+    // Lists the ticks of a block, and writes what they complete where the text gets long.
+    #[inline(always)]
+    fn list_block<K: Sink>(&mut self, block: &Block, sink: &mut K) -> Result<(), Stop>
+        requires few { block.now.ticks ≤ 64 }
+        requires past { (past : List Pair) × (first : Option (List ℕ)) × Lists L.stands L.lines self.old past first (K.held sink.old)
+            × (length past + 128 < 2 ^ 60) }
+        ensures reader { self.new.reader ≡ self.old.reader }
+        ensures listed { (past : List Pair) (first : Option (List ℕ)) → Lists L.stands L.lines self.old past first (K.held sink.old) →
+            Listed L.stands L.lines self.new (reverse (ticks_of block.now) ++ past) first (K.held sink.new) result }
+        ensures cause { FaultHasCause (K.faults sink.old) (K.faults sink.new) result }
+    {
+        let mut at = 0u32;
+        'ticks: while at < block.ticks {
+            at += self.lister.pass(block, at);
+            if at < block.ticks {
+                match self.list_tick(block.tick(at), sink) {
+                    Ok(()) => at += 1,
+                    Err(stop) => return Err(stop),
+                }
+            }
+        }
+        Ok(())
+    }
+
+    // Takes the ticks at the front of a piece, or the byte, where no whole tick stands there. How many bytes it took.
+    fn take_slowly<K: Sink>(&mut self, piece: &[u8], sink: &mut K) -> Result<usize, Stop>
         requires some { 0 < length piece.now }
         requires follows { (bytes : List ℕ) × (first : Option (List ℕ)) × Follows L.stands L.lines self.old bytes first (K.held sink.old) }
         ensures took { (bytes : List ℕ) (first : Option (List ℕ)) → Follows L.stands L.lines self.old bytes first (K.held sink.old) →
@@ -240,7 +305,7 @@ impl<L: Lister> ListingWriter<L> {
             OwedSo all self.new.text first (K.held sink.new) result }
         ensures cause { FaultHasCause (K.faults sink.old) (K.faults sink.new) result }
     {
-        if self.text.as_bytes().len() <= 300 {
+        if self.text.as_bytes().len() <= 3700 {
             return Ok(());
         }
         match self.write(sink) {
@@ -267,7 +332,7 @@ impl<L: Lister> ListingWriter<L> {
         ensures cause { HasCause (K.faults sink.old) (K.faults sink.new) result }
     {
         let written = sink.write(self.text.as_bytes());
-        self.text = Line::new();
+        self.text.clear();
         written
     }
 

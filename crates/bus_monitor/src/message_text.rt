@@ -6,12 +6,13 @@ ghost use Rattle.bus_monitor.specs.Models.{came_of};
 ghost use Rattle.bus_monitor.specs.Steps.{closed_lines};
 
 use crate::closed::{Closed, Ended};
+use crate::page::Page;
 use bus_base::Channel;
 use bus_text::Line;
 
 /// Adds the line of a message that closed, if one did.
-pub(crate) fn add_closed(channel: Channel, closed: Option<Closed>, text: &mut Line)
-    requires { length text.old ≤ 400 }
+pub(crate) fn add_closed(channel: Channel, closed: Option<Closed>, text: &mut Page)
+    requires { length text.old ≤ 3900 }
     ensures text { text.new ≡ text.old ++ closed_lines channel (option_to_list closed) }
     ensures grows { length text.new ≤ length text.old + 100 }
 {
@@ -20,8 +21,8 @@ pub(crate) fn add_closed(channel: Channel, closed: Option<Closed>, text: &mut Li
     }
 }
 
-fn add_line(channel: Channel, closed: &Closed, text: &mut Line)
-    requires { length text.old ≤ 400 }
+fn add_line(channel: Channel, closed: &Closed, text: &mut Page)
+    requires { length text.old ≤ 3900 }
     ensures text { text.new ≡ text.old ++ message_line channel closed.now.first (came_text closed.now.came) }
     ensures grows { length text.new ≤ length text.old + 100 }
 {
@@ -31,8 +32,8 @@ fn add_line(channel: Channel, closed: &Closed, text: &mut Line)
 }
 
 /// Adds the line of a message that is open, if one is.
-pub(crate) fn add_open(channel: Channel, first: Option<u64>, text: &mut Line)
-    requires { length text.old ≤ 400 }
+pub(crate) fn add_open(channel: Channel, first: Option<u64>, text: &mut Page)
+    requires { length text.old ≤ 3900 }
     ensures text { text.new ≡ text.old ++ open_line channel first }
     ensures grows { length text.new ≤ length text.old + 100 }
 {
@@ -44,8 +45,8 @@ pub(crate) fn add_open(channel: Channel, first: Option<u64>, text: &mut Line)
 }
 
 // The channel and the first tick of a message.
-fn begin_line(channel: Channel, first: u64, text: &mut Line)
-    requires { length text.old ≤ 400 }
+fn begin_line(channel: Channel, first: u64, text: &mut Page)
+    requires { length text.old ≤ 3900 }
     ensures text { text.new ≡ ((text.old ++ codes "message") ++ number first) ++ channel_text channel }
     ensures grows { length text.new ≤ length text.old + 30 }
 {
@@ -54,25 +55,26 @@ fn begin_line(channel: Channel, first: u64, text: &mut Line)
     text.channel(channel);
 }
 
-fn add_came(came: &Option<Ended>, text: &mut Line)
-    requires { length text.old ≤ 430 }
+fn add_came(came: &Option<Ended>, text: &mut Page)
+    requires { length text.old ≤ 3930 }
     ensures text { text.new ≡ text.old ++ came_text (came_of came.now) }
     ensures grows { length text.new ≤ length text.old + 69 }
 {
     match came {
-        Some(ended) => add_ended(ended, text),
+        Some(ended) => text.line(&ended_text(ended)),
         None => text.text(" unknown"),
     }
 }
 
 // The command words of a message, its outcome, and the statuses that are kept.
-fn add_ended(ended: &Ended, text: &mut Line)
-    requires { length text.old ≤ 430 }
-    ensures text { text.new ≡ text.old ++ came_text ended.now }
-    ensures grows { length text.new ≤ length text.old + 69 }
+fn ended_text(ended: &Ended) -> Line
+    ensures text { result ≡ came_text ended.now }
+    ensures grows { length result ≤ 69 }
 {
+    let mut text = Line::new();
     text.commands(&ended.kind);
     text.outcome(ended.outcome);
     text.status(ended.earlier);
     text.status(ended.last);
+    text
 }

@@ -12,10 +12,11 @@ use crate::channel_lister::ChannelLister;
 use crate::list::list;
 use crate::listing_writer::Lister;
 use crate::message_text::add_open;
+use crate::page::Page;
 use crate::words::add_end;
 use bus_base::{Channel, Pair};
+use bus_capture::Block;
 use bus_outside::{Sink, Source};
-use bus_text::Line;
 
 /// Reads a capture to its end, in pieces of at most 4,096 bytes, and writes the listing of its messages while it reads: a line for each
 /// message where it closes, with its outcome and statuses, A before B in one tick; then a line for each that is open at the end, and the
@@ -66,13 +67,31 @@ impl Lister for MessageLister {
     }
 
     #[inline(always)]
-    fn list(&mut self, shown: Pair, text: &mut Line) {
+    fn list(&mut self, shown: Pair, text: &mut Page) {
         self.a.list(Channel::A, self.ticks, shown.a, text);
         self.b.list(Channel::B, self.ticks, shown.b, text);
         self.ticks += 1;
     }
 
-    fn finish(&self, text: &mut Line) {
+    #[inline(always)]
+    fn pass(&mut self, block: &Block, at: u32) -> u32 {
+        let heard_a = block.heard_a >> at;
+        let heard_b = block.heard_b >> at;
+        let ticks = self
+            .a
+            .still(heard_a, self.ticks)
+            .min(self.b.still(heard_b, self.ticks))
+            .min(block.ticks - at);
+        if ticks == 0 {
+            return 0;
+        }
+        self.a.pass(heard_a, block.plus_a >> at, ticks);
+        self.b.pass(heard_b, block.plus_b >> at, ticks);
+        self.ticks += u64::from(ticks);
+        ticks
+    }
+
+    fn finish(&self, text: &mut Page) {
         add_open(Channel::A, self.a.open(), text);
         add_open(Channel::B, self.b.open(), text);
         add_end(self.ticks, text);

@@ -14,12 +14,12 @@ use std::test::Fail;
 
 // Which listing is made.
 #[derive(Clone, Copy)]
-enum What {
+pub(crate) enum What {
     Words,
     Messages,
 }
 
-fn show(pairs: &mut [Pair], channel: Channel, first: usize, sync: Sync, bits: u16) {
+pub(crate) fn show(pairs: &mut [Pair], channel: Channel, first: usize, sync: Sync, bits: u16) {
     for (at, sample) in spell(Word { sync, bits }).iter().enumerate() {
         if let Some(pair) = pairs.get_mut(first.saturating_add(at)) {
             match channel {
@@ -30,7 +30,7 @@ fn show(pairs: &mut [Pair], channel: Channel, first: usize, sync: Sync, bits: u1
     }
 }
 
-fn text_of(alloc: Global, pairs: &[Pair]) -> Result<Vec<u8>, AllocError> {
+pub(crate) fn text_of(alloc: Global, pairs: &[Pair]) -> Result<Vec<u8>, AllocError> {
     let mut text = Vec::from_slice(alloc, b"1553 capture 1\n")?;
     let mut line = ArrayVec::new();
     for pairs in pairs.chunks(64) {
@@ -59,7 +59,7 @@ const WORDS: &str =
 const MESSAGES: &str = "message 8 A 2822 clear status 2800\nend 252\n";
 
 // The listing of a text that comes in pieces of so many bytes at most, where these reads and writes fail.
-fn listing_of(
+pub(crate) fn listing_of(
     what: What,
     text: Vec<u8>,
     most: usize,

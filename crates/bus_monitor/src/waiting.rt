@@ -1,5 +1,5 @@
 //! A message that waits for an answer, and what the next burst of its channel makes of it.
-ghost use Rattle.std.specs.Prelude.{◌≡◌, ◌+◌, ◌++◌, ◌==◌, take, option_to_list, ℕ, List, Option, IfSome};
+ghost use Rattle.std.specs.Prelude.{◌≡◌, ◌+◌, ◌<◌, ◌≤◌, ◌++◌, ◌==◌, take, option_to_list, ℕ, List, Option, IfSome};
 ghost use Rattle.bus_formats.specs.Accepted.{HasKindRanges};
 ghost use Rattle.bus_formats.specs.Readings as readings;
 ghost use Rattle.bus_formats.specs.Times.{no_response};
@@ -66,6 +66,17 @@ impl Waiting {
         ensures { result ≡ (now == self.now.from + no_response) }
     {
         now.saturating_sub(self.from) == u64::from(NO_RESPONSE)
+    }
+
+    /// The ticks from this one on before the one with which the time for an answer is over.
+    pub(crate) fn left(&self, now: u64) -> u32
+        ensures { 0 < result → now + result ≤ self.now.from + no_response }
+    {
+        let past = now.saturating_sub(self.from);
+        if past < u64::from(NO_RESPONSE) {
+            return u32::from(NO_RESPONSE) - past as u32;
+        }
+        0
     }
 
     /// The message, closed in this tick without an answer.

@@ -1,24 +1,26 @@
 //! The valid words of both channels, tick by tick.
-ghost use Rattle.std.specs.Prelude.{◌≡◌, ◌<◌, ◌+◌, ◌^◌, ℕ, true, nat_lt, List, [], ◌∷◌, ◌++◌, length};
+ghost use Rattle.std.specs.Prelude.{◌≡◌, ◌<◌, ◌≤◌, ◌+◌, ◌^◌, ◌&&◌, ℕ, true, List, [], ◌∷◌, ◌++◌, length};
 ghost use Rattle.bus_base.specs.Samples.{quiet_pairs};
 ghost use Rattle.bus_base.specs.declared.samples.Channel.TheVariants as channels;
 ghost use Rattle.bus_base.specs.declared.samples.Pair.{Pair};
 ghost use Rattle.bus_line.specs.declared.cutter.TheConstants.{LAG};
 ghost use Rattle.bus_monitor.specs.Progress.{heard_now};
-ghost use Rattle.bus_monitor.specs.Listers.{WordListerStands, heard_in, quiet_next};
+ghost use Rattle.bus_monitor.specs.Listers.{WordListerStands, heard_in};
+ghost use Rattle.bus_monitor.specs.Parts.{part, TellNothingOn};
+ghost use Rattle.bus_planes.specs.Still.{rests};
 
-use bus_base::{Channel, Pair, Sample, Tick};
+use bus_base::{Channel, Pair, Tick};
+use bus_capture::Block;
 use bus_formats::Heard;
-use bus_line::{Cut, Cutter, LAG};
+use bus_line::Cut;
+use bus_planes::BitCutter;
 
 /// Lists the valid words of both channels. It keeps the samples of the two slots that run, and takes no memory.
 #[derive(Drop)]
 pub struct WordLister {
-    pub(crate) a: Cutter,
-    pub(crate) b: Cutter,
-    ticks: u64,
-    // the ticks in a row up to now in which both channels were quiet, up to `LAG` + 1
-    quiet: u8,
+    pub(crate) a: BitCutter,
+    pub(crate) b: BitCutter,
+    pub(crate) ticks: u64,
 }
 
 impl WordLister {
@@ -27,10 +29,9 @@ impl WordLister {
         ensures { WordListerStands result [] }
     {
         WordLister {
-            a: Cutter::new(),
-            b: Cutter::new(),
+            a: BitCutter::new(),
+            b: BitCutter::new(),
             ticks: 0,
-            quiet: LAG + 1,
         }
     }
 
@@ -52,45 +53,59 @@ impl WordLister {
         let tick = self.ticks;
         let a = self.a.hear(heard.a);
         let b = self.b.hear(heard.b);
-        self.count(heard);
+        self.count();
         [word_in(a, Channel::A, tick), word_in(b, Channel::B, tick)]
     }
 
     /// Counts a tick that both cutters heard.
     #[inline(always)]
-    pub(crate) fn count(&mut self, heard: Pair)
+    pub(crate) fn count(&mut self)
         requires { self.old.ticks < 2 ^ 60 }
-        ensures { self.new ≡ record self.old { ticks = self.old.ticks + 1; quiet = quiet_next self.old.quiet heard } }
+        ensures { self.new ≡ record self.old { ticks = self.old.ticks + 1 } }
     {
         self.ticks += 1;
-        self.quiet = quiet_after(self.quiet, heard);
     }
 
     /// Whether no burst runs.
     pub(crate) fn is_idle(&self) -> bool
-        ensures { result ≡ nat_lt LAG self.now.quiet }
+        ensures { result ≡ (rests LAG self.now.a && rests LAG self.now.b) }
     {
-        LAG < self.quiet
+        self.a.rests() && self.b.rests()
+    }
+
+    /// Hears the ticks of a block from one on in which nothing is told, as far as is looked. How many.
+    #[inline(always)]
+    pub(crate) fn pass(&mut self, block: &Block, at: u32) -> u32
+        requires at { at < block.now.ticks }
+        requires few { block.now.ticks ≤ 64 }
+        requires past { (past : List Pair) × WordListerStands self.old past × (length past + 64 < 2 ^ 60) }
+        ensures within { result + at ≤ block.now.ticks }
+        ensures stands { (past : List Pair) → WordListerStands self.old past → WordListerStands self.new (part block.now at result ++ past) }
+        ensures tells { (past : List Pair) → WordListerStands self.old past → TellNothingOn LAG (part block.now at result) past }
+    {
+        let heard_a = block.heard_a >> at;
+        let heard_b = block.heard_b >> at;
+        let ticks = self
+            .a
+            .still(heard_a)
+            .min(self.b.still(heard_b))
+            .min(block.ticks - at);
+        if ticks == 0 {
+            return 0;
+        }
+        self.a.pass(heard_a, block.plus_a >> at, ticks);
+        self.b.pass(heard_b, block.plus_b >> at, ticks);
+        self.ticks += u64::from(ticks);
+        ticks
     }
 
     /// Hears so many ticks at once in which both channels are quiet, where no burst runs: so no valid word ends in them.
     pub(crate) fn skip(&mut self, ticks: u64)
-        requires idle { nat_lt LAG self.old.quiet ≡ true }
+        requires idle { (rests LAG self.old.a && rests LAG self.old.b) ≡ true }
         requires past { (past : List Pair) × WordListerStands self.old past × (length past + ticks < 2 ^ 60) }
         ensures { (past : List Pair) → WordListerStands self.old past → WordListerStands self.new (quiet_pairs ticks ++ past) }
     {
         self.ticks += ticks;
-    }
-}
-
-// The quiet ticks in a row with one tick more.
-#[inline(always)]
-fn quiet_after(quiet: u8, heard: Pair) -> u8
-    ensures { result ≡ quiet_next quiet heard }
-{
-    match (heard.a, heard.b) {
-        (Sample::Quiet, Sample::Quiet) => quiet.saturating_add(1).min(LAG + 1),
-        _ => 0,
     }
 }
 

@@ -1,5 +1,6 @@
 //! The listing of the valid words of a capture.
-ghost use Rattle.std.specs.Prelude.{◌≡◌, ◌≤◌, ◌<◌, ◌+◌, ◌++◌, ◌^◌, length, flat_map, nat_lt, option_to_list, ℕ, List};
+ghost use Rattle.std.specs.Prelude.{◌≡◌, ◌≤◌, ◌<◌, ◌+◌, ◌++◌, ◌^◌, length, flat_map, ◌&&◌, option_to_list, ℕ, List};
+ghost use Rattle.bus_planes.specs.Still.{rests};
 ghost use Rattle.bus_line.specs.declared.cutter.TheConstants.{LAG};
 ghost use Rattle.bus_text.specs.Texts.{word_line};
 ghost use Rattle.bus_monitor.specs.Listings.{word_listing};
@@ -9,13 +10,14 @@ ghost use Rattle.bus_monitor.specs.Listers.{WordListerStands, heard_in};
 
 use crate::list::list;
 use crate::listing_writer::Lister;
+use crate::page::Page;
 use crate::word_lister::word_in;
 use crate::{Listing, WordLister};
 use bus_base::{Channel, Pair};
+use bus_capture::Block;
 use bus_formats::Heard;
 use bus_line::Cut;
 use bus_outside::{Sink, Source};
-use bus_text::Line;
 
 /// Reads a capture to its end, in pieces of at most 4,096 bytes, and writes the listing of its valid words while it reads: a line
 /// for each, in the order of their last ticks, A before B, and then the number of ticks. It takes no memory.
@@ -33,7 +35,7 @@ impl Lister for WordLister {
 
     ghost whole = { word_listing LAG };
 
-    ghost idle = { λ lister. nat_lt LAG lister.quiet };
+    ghost idle = { λ lister. rests LAG lister.a && rests LAG lister.b };
 
     fn is_idle(&self) -> bool {
         self.is_idle()
@@ -44,16 +46,21 @@ impl Lister for WordLister {
     }
 
     #[inline(always)]
-    fn list(&mut self, shown: Pair, text: &mut Line) {
+    fn list(&mut self, shown: Pair, text: &mut Page) {
         let tick = self.ticks();
         let a = self.a.hear(shown.a);
         add_cut(a, Channel::A, tick, text);
         let b = self.b.hear(shown.b);
         add_cut(b, Channel::B, tick, text);
-        self.count(shown);
+        self.count();
     }
 
-    fn finish(&self, text: &mut Line) {
+    #[inline(always)]
+    fn pass(&mut self, block: &Block, at: u32) -> u32 {
+        self.pass(block, at)
+    }
+
+    fn finish(&self, text: &mut Page) {
         add_end(self.ticks(), text);
     }
 }
@@ -61,8 +68,8 @@ impl Lister for WordLister {
 // Adds the line of the valid word that ends in this tick, if what became known of the channel has one. It is called twice a tick, and mostly
 // does nothing.
 #[inline(always)]
-fn add_cut(cut: Cut, channel: Channel, tick: u64, text: &mut Line)
-    requires { length text.old ≤ 500 }
+fn add_cut(cut: Cut, channel: Channel, tick: u64, text: &mut Page)
+    requires { length text.old ≤ 3900 }
     ensures text { text.new ≡ text.old ++ flat_map word_line (option_to_list (heard_in cut channel tick)) }
     ensures grows { length text.new ≤ length text.old + 40 }
 {
@@ -71,8 +78,8 @@ fn add_cut(cut: Cut, channel: Channel, tick: u64, text: &mut Line)
     }
 }
 
-fn add_word(heard: Option<Heard>, text: &mut Line)
-    requires { length text.old ≤ 500 }
+fn add_word(heard: Option<Heard>, text: &mut Page)
+    requires { length text.old ≤ 3900 }
     ensures text { text.new ≡ text.old ++ flat_map word_line (option_to_list heard) }
     ensures grows { length text.new ≤ length text.old + 40 }
 {
@@ -81,22 +88,17 @@ fn add_word(heard: Option<Heard>, text: &mut Line)
     }
 }
 
-fn add_line(heard: Heard, text: &mut Line)
-    requires { length text.old ≤ 500 }
+fn add_line(heard: Heard, text: &mut Page)
+    requires { length text.old ≤ 3900 }
     ensures text { text.new ≡ text.old ++ word_line heard }
     ensures grows { length text.new ≤ length text.old + 40 }
 {
-    text.text("word");
-    text.number(heard.tick.0);
-    text.channel(heard.channel);
-    text.sync(heard.word.sync);
-    text.word(heard.word.bits);
-    text.end();
+    text.word(heard);
 }
 
 /// Adds the line that ends a listing, with the number of ticks.
-pub(crate) fn add_end(ticks: u64, text: &mut Line)
-    requires { length text.old ≤ 500 }
+pub(crate) fn add_end(ticks: u64, text: &mut Page)
+    requires { length text.old ≤ 3900 }
     ensures { text.new ≡ text.old ++ end_text ticks }
 {
     text.text("end");

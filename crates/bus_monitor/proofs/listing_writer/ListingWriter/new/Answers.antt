@@ -7,7 +7,7 @@ pub returns : goal.returns
 unfolding place_after ticks_in
 returns g c first =
     let none : length c.new-2.result ≡ 0 = ap length c.new-2.ensures in
-    let room : length c.new-2.result ≤ 300 = omega (arith, none) in
+    let room : length c.new-2.result ≤ 3700 = omega (arith, none) in
     record {
       holds = record {
         reader = c.new.ensures;

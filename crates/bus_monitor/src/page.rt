@@ -1,0 +1,180 @@
+//! The lines of a listing that are held back: a page, which is written when it is nearly full and at the end of each piece of the input.
+//!
+//! Contracts see a page as the list of its bytes, as they see a line.
+ghost use Rattle.std.specs.Prelude.{◌≡◌, ◌+◌, ◌/◌, ◌%◌, ◌≤◌, ◌<◌, [], ◌∷◌, ◌++◌, List, ℕ, length, decimal};
+ghost use Rattle.bus_text.specs.Texts.{hex_digit, line, number as number_text, word as word_text, channel_text, sync_text, word_line};
+
+use arrayvec::ArrayVec;
+use bus_base::Channel;
+use bus_formats::Heard;
+use bus_text::Line;
+use bus_words::Sync;
+use itoa::Buffer;
+use std::marker::Model;
+
+/// Lines that wait to be written, at most 4,096 bytes.
+#[derive(Drop)]
+pub(crate) struct Page {
+    bytes: ArrayVec<u8, 4096>,
+}
+
+impl Model for Page {
+    ghost use Rattle.std.specs.Prelude.{List, ℕ};
+
+    ghost Value = { List ℕ };
+
+    ghost view = { λ p. p.bytes.items };
+}
+
+impl Page {
+    /// The empty page.
+    pub(crate) fn new() -> Page
+        ensures { result ≡ [] }
+    {
+        Page {
+            bytes: ArrayVec::new(),
+        }
+    }
+
+    /// The bytes so far.
+    pub(crate) fn as_bytes(&self) -> &[u8]
+        ensures { result.now ≡ self.now }
+    {
+        self.bytes.as_slice()
+    }
+
+    /// Forgets the bytes so far.
+    pub(crate) fn clear(&mut self)
+        ensures { self.new ≡ [] }
+    {
+        self.bytes.clear();
+    }
+
+    /// Adds a line that was made apart.
+    pub(crate) fn line(&mut self, line: &Line)
+        requires { length self.old + length line.now ≤ 4096 }
+        ensures { self.new ≡ self.old ++ line.now }
+    {
+        self.add(line.as_bytes());
+    }
+
+    /// Adds the line of a word heard.
+    pub(crate) fn word(&mut self, heard: Heard)
+        requires { length self.old + 40 ≤ 4096 }
+        ensures text { self.new ≡ self.old ++ word_line heard }
+        ensures grows { length self.new ≤ length self.old + 40 }
+    {
+        self.text("word");
+        self.number(heard.tick.0);
+        self.rest_of_word(
+            channel_letter(heard.channel),
+            sync_letter(heard.word.sync),
+            heard.word.bits,
+        );
+    }
+
+    /// Adds a text.
+    pub(crate) fn text(&mut self, more: &str)
+        requires { length self.old + length more.now ≤ 4096 }
+        ensures text { self.new ≡ self.old ++ more.now }
+        ensures grows { length self.new ≡ length self.old + length more.now }
+    {
+        self.add(more.as_bytes());
+    }
+
+    /// Adds a number after a space.
+    pub(crate) fn number(&mut self, n: u64)
+        requires { length self.old + 21 ≤ 4096 }
+        ensures text { self.new ≡ self.old ++ number_text n }
+        ensures grows { length self.new ≤ length self.old + 21 }
+    {
+        self.add(b" ");
+        self.decimal(n);
+    }
+
+    /// Adds a channel after a space.
+    pub(crate) fn channel(&mut self, channel: Channel)
+        requires { length self.old + 2 ≤ 4096 }
+        ensures text { self.new ≡ self.old ++ channel_text channel }
+        ensures grows { length self.new ≡ length self.old + 2 }
+    {
+        self.add(&[b' ', channel_letter(channel)]);
+    }
+
+    /// Adds the line feed that ends a line.
+    pub(crate) fn end(&mut self)
+        requires { length self.old < 4096 }
+        ensures { self.new ≡ line self.old }
+    {
+        self.add(b"\n");
+    }
+
+    fn add(&mut self, bytes: &[u8])
+        requires { length self.old + length bytes.now ≤ 4096 }
+        ensures text { self.new ≡ self.old ++ bytes.now }
+        ensures grows { length self.new ≡ length self.old + length bytes.now }
+    {
+        let _ = self.bytes.try_extend_from_slice(bytes);
+    }
+
+    // Adds a number in decimal digits.
+    fn decimal(&mut self, n: u64)
+        requires { length self.old + 20 ≤ 4096 }
+        ensures text { self.new ≡ self.old ++ decimal n }
+        ensures grows { length self.new ≤ length self.old + 20 }
+    {
+        self.add(Buffer::new().format(n).as_bytes());
+    }
+
+    // Adds two letters and a word, each after a space, and the line feed that ends a line.
+    fn rest_of_word(&mut self, channel: u8, sync: u8, word: u16)
+        requires { length self.old + 10 ≤ 4096 }
+        ensures text { self.new ≡ self.old ++ 32 ∷ channel ∷ 32 ∷ sync ∷ (word_text word ++ 10 ∷ []) }
+        ensures grows { length self.new ≡ length self.old + 10 }
+    {
+        self.add(&[
+            b' ',
+            channel,
+            b' ',
+            sync,
+            b' ',
+            digit_of(word / 4096 % 16),
+            digit_of(word / 256 % 16),
+            digit_of(word / 16 % 16),
+            digit_of(word % 16),
+            b'\n',
+        ]);
+    }
+}
+
+// The letter of a channel.
+fn channel_letter(channel: Channel) -> u8
+    ensures { 32 ∷ result ∷ [] ≡ channel_text channel }
+{
+    match channel {
+        Channel::A => b'A',
+        Channel::B => b'B',
+    }
+}
+
+// The letter of a sync.
+fn sync_letter(sync: Sync) -> u8
+    ensures { 32 ∷ result ∷ [] ≡ sync_text sync }
+{
+    match sync {
+        Sync::Command => b'c',
+        Sync::Datum => b'd',
+    }
+}
+
+// The upper-case hexadecimal digit of a number below 16.
+fn digit_of(n: u16) -> u8
+    requires { n < 16 }
+    ensures { result ≡ hex_digit n }
+{
+    if n < 10 {
+        b'0' + n as u8
+    } else {
+        b'A' + (n as u8 - 10)
+    }
+}

@@ -1,0 +1,5 @@
+pub mod BitLaws
+pub mod Shown
+pub mod PairLaws
+pub mod CutLaws
+pub mod StillLaws
