@@ -21,12 +21,12 @@ use Rattle.bus_formats.specs.declared.form.Reading.TheVariants.{Good, Ends}
 use Rattle.bus_model.specs.Attempts.{Begun, Ended, without_words, is_offer, kept_words}
 use Rattle.bus_model.specs.Controller.{Reply, silence, awaited, running, reply, ending_now, first_ending, second_ending, abandon_ending, read_ending}
 use Rattle.bus_model.specs.Course.{Course}
-use Rattle.bus_controller.specs.Moments.{moment_of}
+use Rattle.bus_receiver.specs.Moments.{moment_of}
 use Rattle.bus_controller.specs.Agendas.{AgendaData}
 use Rattle.bus_controller.specs.Steps.{abandons, expects, good_first, first_by, second_by, is_doubtful}
 use Rattle.bus_controller.specs.Stands.{own, AttemptStands, AwaitsFirst, AwaitsSecond, Awaits, IsAwaited, NextStands}
 use Rattle.bus_controller.specs.declared.states.ControllerState.TheVariants as states
-use Rattle.bus_controller.proofs.Moments.{length-on}
+use Rattle.bus_receiver.proofs.Hearing.{length-on}
 use Rattle.bus_controller.proofs.Closing.{runs-on, going-stands, closes-stands}
 use Rattle.bus_controller.proofs.Replies.{reply-awaited}
 use Rattle.bus_controller.proofs.Sends.{just-ended}

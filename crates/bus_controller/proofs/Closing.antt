@@ -11,7 +11,7 @@ use Rattle.bus_model.specs.Starts.{Entry, left_after}
 use Rattle.bus_model.specs.Attempts.{Begun, Ended}
 use Rattle.bus_model.specs.Controller.{ending_now}
 use Rattle.bus_model.specs.Course.{Course, runs_next, run_on, close, gives}
-use Rattle.bus_controller.specs.Moments.{moment_of}
+use Rattle.bus_receiver.specs.Moments.{moment_of}
 use Rattle.bus_controller.specs.Agendas.{AgendaData, agenda_after, opens_after}
 use Rattle.bus_controller.specs.Steps.{going, closes, goes_on}
 use Rattle.bus_controller.specs.Stands.{agenda_of, AgendaStands, AttemptStands, WaitStands, StateStands, NextStands}

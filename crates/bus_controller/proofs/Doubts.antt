@@ -12,7 +12,7 @@ use Rattle.bus_formats.specs.Times.{doubting}
 use Rattle.bus_model.specs.Attempts.{Begun, without_words}
 use Rattle.bus_model.specs.Controller.{ending_now, doubt_ending}
 use Rattle.bus_model.specs.Course.{Course}
-use Rattle.bus_controller.specs.Moments.{moment_of}
+use Rattle.bus_receiver.specs.Moments.{moment_of}
 use Rattle.bus_controller.specs.Agendas.{AgendaData}
 use Rattle.bus_controller.specs.Steps.{doubts, from_doubting}
 use Rattle.bus_controller.specs.Stands.{own, AttemptStands, AwaitsFirst, IsDoubted, DoubtingStands, NextStands}

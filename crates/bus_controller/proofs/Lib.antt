@@ -1,5 +1,4 @@
 pub mod Places
-pub mod Moments
 pub mod Words
 pub mod Openings
 pub mod Waiting
@@ -12,3 +11,4 @@ pub mod Expects
 pub mod AnswerLaws
 pub mod StateLaws
 pub mod Wholes
+pub mod Serving

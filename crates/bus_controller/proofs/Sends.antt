@@ -15,12 +15,12 @@ use Rattle.bus_formats.specs.declared.form.Outcome.TheVariants.{Sent}
 use Rattle.bus_model.specs.Attempts.{without_words}
 use Rattle.bus_model.specs.Controller.{awaited, reply}
 use Rattle.bus_model.specs.Course.{Course}
-use Rattle.bus_controller.specs.Moments.{moment_of}
+use Rattle.bus_receiver.specs.Moments.{moment_of}
 use Rattle.bus_controller.specs.Steps.{from_sending, quiet_more, command_ended, expects}
 use Rattle.bus_controller.specs.Stands.{own, SendingStands, IsAwaited, NextStands}
 use Rattle.bus_controller.specs.declared.sending.Sending.{Sending}
 use Rattle.bus_controller.specs.declared.states.ControllerState.TheVariants as states
-use Rattle.bus_controller.proofs.Moments.{length-on}
+use Rattle.bus_receiver.proofs.Hearing.{length-on}
 use Rattle.bus_controller.proofs.Closing.{runs-on, going-stands, closes-stands}
 use Rattle.bus_controller.proofs.Replies.{first-none, reply-awaited}
 

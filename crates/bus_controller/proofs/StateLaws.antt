@@ -19,7 +19,8 @@ use Rattle.bus_formats.specs.declared.form.Outcome.TheVariants as outcomes
 use Rattle.bus_model.specs.Attempts.{without_words}
 use Rattle.bus_model.specs.Controller.{reply, awaited, silence, running, ending_now}
 use Rattle.bus_model.specs.Course.{Course, runs_next, run_on}
-use Rattle.bus_controller.specs.Moments.{moment_of, cut_on}
+use Rattle.bus_receiver.specs.Cuts.{cut_on}
+use Rattle.bus_receiver.specs.Moments.{moment_of}
 use Rattle.bus_controller.specs.Agendas.{AgendaData}
 use Rattle.bus_controller.specs.Steps.{going, closes, silent, no_answer, runs_on, is_abandoned, cut_heard, kept, read_by, hears, from_expecting, from_holding, from_settling, from_yielded, next_of_state}
 use Rattle.bus_controller.specs.Stands.{own, AttemptStands, Awaits, IsAwaited, IsRunning, ExpectingStands, HoldingStands, SettlingStands, YieldedStands, WaitStands, StateStands, NextStands, slots_of}
@@ -31,7 +32,7 @@ use Rattle.bus_controller.specs.declared.opening.Opening.{Opening as Wait}
 use Rattle.bus_controller.specs.declared.opening.Opening.TheVariants as openings
 use Rattle.bus_controller.specs.declared.states.ControllerState.{ControllerState}
 use Rattle.bus_controller.specs.declared.states.ControllerState.TheVariants as states
-use Rattle.bus_controller.proofs.Moments.{length-on}
+use Rattle.bus_receiver.proofs.Hearing.{length-on}
 use Rattle.bus_controller.proofs.Waiting.{waits-stand, wait-more}
 use Rattle.bus_controller.proofs.Closing.{runs-on, going-stands, closes-stands}
 use Rattle.bus_controller.proofs.Replies.{reply-awaited, reply-running}
@@ -41,7 +42,7 @@ use Rattle.bus_controller.proofs.Expects.{awaits-more, begins-running, plain, sl
 use Rattle.bus_controller.proofs.AnswerLaws.{ending_with, ending-by, awaited-none, unanswered, silence-ends, running-ends, first-read, second-read}
 
 -- what becomes known of an attempt's channel
-cut-is : (k : ℕ) (shown : Pair) (past : List Pair) (ch : Channel) → cut_on (moment_of k shown past) ch ≡ cut_now k (sample_on shown ch ∷ on_channel ch past)
+cut-is : (k : ℕ) (shown : Pair) (past : List Pair) (ch : Channel) → cut_on (moment_of k shown past).cuts ch ≡ cut_now k (sample_on shown ch ∷ on_channel ch past)
 cut-is k shown past A = refl
 cut-is k shown past B = refl
 

@@ -18,7 +18,7 @@ use Rattle.bus_controller.specs.Stands.{agenda_of, AgendaStands, SendingStands, 
 use Rattle.bus_controller.specs.declared.opening.Opening.{Opening as Wait}
 use Rattle.bus_controller.specs.declared.opening.Opening.TheVariants as openings
 use Rattle.bus_controller.specs.declared.states.ControllerState.TheVariants as states
-use Rattle.bus_controller.proofs.Moments.{length-on, quiet_both-le}
+use Rattle.bus_receiver.proofs.Hearing.{length-on, quiet_both-le}
 use Rattle.bus_controller.proofs.Openings.{due-now, state-same, later-due, opening-more, unsettled-none}
 
 -- the tick from which both channels are quiet, one tick later

@@ -33,7 +33,7 @@ use Rattle.bus_controller.specs.declared.opening.Opening.TheVariants as openings
 use Rattle.bus_controller.specs.declared.yielded.Yielded.{Yielded}
 use Rattle.bus_controller.specs.declared.states.ControllerState.{ControllerState}
 use Rattle.bus_controller.specs.declared.states.ControllerState.TheVariants as states
-use Rattle.bus_controller.proofs.Moments.{length-on}
+use Rattle.bus_receiver.proofs.Hearing.{length-on}
 use Rattle.bus_controller.proofs.Waiting.{waits-stand}
 
 -- ---- takes

@@ -23,9 +23,9 @@ use Rattle.bus_model.specs.Starts.{Entry, finishes, planned_at}
 use Rattle.bus_model.specs.Attempts.{Begun, Ended, without_words, recorded, is_offer, kept_words}
 use Rattle.bus_model.specs.Course.{gives}
 use Rattle.bus_model.specs.Sending.{drive_sample}
-use Rattle.bus_controller.specs.Moments.{cut_on}
+use Rattle.bus_receiver.specs.Cuts.{cut_on}
 use Rattle.bus_controller.specs.Agendas.{AgendaData, agenda_after, begun_by, is_due, is_unsettled, opens_after}
-use Rattle.bus_controller.specs.declared.moment.Moment.{Moment}
+use Rattle.bus_receiver.specs.declared.receiver.Moment.{Moment}
 use Rattle.bus_controller.specs.declared.opening.Opening.{Opening}
 use Rattle.bus_controller.specs.declared.opening.Opening.TheVariants as openings
 use Rattle.bus_controller.specs.declared.holding.Holding.{Holding}
@@ -198,7 +198,7 @@ cut_heard k s slots m cuts.Nothing = runs_on s slots m
 
 abbrev pub hears : ℕ → Expecting → Moment → Option (List (Option Word)) → ControllerNext
 hears k s m None = if is_quiet (heard_on s.begun m) then silent s m else runs_on s [] m
-hears k s m (Some slots) = cut_heard k s slots m (cut_on m s.begun.state.channel)
+hears k s m (Some slots) = cut_heard k s slots m (cut_on m.cuts s.begun.state.channel)
 
 abbrev pub from_expecting : ℕ → Expecting → Moment → ControllerNext
 from_expecting k s m = hears k (record s { answer = None }) m (option_map (λ slots. slots.items) s.answer)

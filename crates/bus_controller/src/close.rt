@@ -6,11 +6,11 @@ ghost use Rattle.bus_controller.specs.Steps.{closes, goes_on};
 use crate::agenda::Agenda;
 use crate::attempt::{Begun, Ended, recorded};
 use crate::holding::wait;
-use crate::moment::Moment;
 use crate::opening::Opening;
 use crate::states::{ControllerEvent, ControllerNext, ControllerState};
 use crate::yielded::Yielded;
 use bus_formats::Outcome;
+use bus_receiver::Moment;
 
 /// The message of an attempt ended so in this tick. It takes no memory.
 pub(crate) fn close(agenda: Agenda, begun: Begun, ended: Ended, moment: Moment) -> ControllerNext
@@ -20,7 +20,7 @@ pub(crate) fn close(agenda: Agenda, begun: Begun, ended: Ended, moment: Moment) 
     let outcome = ended.outcome;
     let finishes = agenda.close(&begun, outcome);
     let opening = Opening::after(outcome, begun.state.channel);
-    let attempt = recorded(&begun, ended, moment.tick, finishes);
+    let attempt = recorded(&begun, ended, moment.tick(), finishes);
     ControllerNext {
         state: go_on(gives_control(outcome), agenda, opening, moment),
         event: ControllerEvent::Ended(attempt),
@@ -33,7 +33,7 @@ fn go_on(gives_control: bool, agenda: Agenda, opening: Opening, moment: Moment) 
     if gives_control {
         ControllerState::Yielded(Yielded { agenda })
     } else {
-        wait(agenda, opening, moment.next, moment.quiet)
+        wait(agenda, opening, moment.next(), moment.quiet())
     }
 }
 

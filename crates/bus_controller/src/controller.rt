@@ -1,6 +1,7 @@
 //! The controller that a station has.
 ghost use Rattle.std.specs.Prelude.{◌≡◌, ◌≢◌, ℕ, ◌<◌, ◌≤◌, ◌^◌, Bool, true, false, not, ◌&&◌, is_none, List, [], ◌∷◌, ◌++◌, length, Some};
 ghost use Rattle.bus_base.specs.declared.samples.Pair.{Pair};
+ghost use Rattle.bus_line.specs.Channels.{quiet_both};
 ghost use Rattle.bus_line.specs.declared.cutter.TheConstants.{LAG};
 ghost use Rattle.bus_formats.specs.Plans.{StationData};
 ghost use Rattle.bus_model.specs.Starts.{has_items};
@@ -8,18 +9,21 @@ ghost use Rattle.bus_model.specs.Course.{Take, course, drive_course};
 ghost use Rattle.bus_controller.specs.Stands.{told};
 ghost use Rattle.bus_controller.specs.Steps.{next_of_state, taken_by};
 ghost use Rattle.bus_controller.specs.AgendaOf.{IsAgendaOf};
-ghost use Rattle.bus_controller.specs.ControllerStands.{ControllerStands};
+ghost use Rattle.bus_controller.specs.ControllerStands.{ControllerStands, ControllerKeeps};
+ghost use Rattle.bus_receiver.specs.Cuts.{CuttersHear};
+ghost use Rattle.bus_receiver.specs.Moments.{moment_of, ReceiverStands};
 
 use crate::agenda::Agenda;
 use crate::holding::wait;
-use crate::moment::{Moment, Receiver};
 use crate::opening::Opening;
 use crate::states::{ControllerEvent, ControllerState};
 use crate::yielded::Yielded;
 use bus_base::{Drive, Pair, Tick};
 use bus_formats::LEAST_QUIET;
+use bus_receiver::{Moment, Receiver};
 
-/// A bus controller. It stands for every history of both channels that it heard and every list of takes.
+/// A bus controller. It stands for every history of both channels that it heard and every list of takes. It hears both channels by its own receiver,
+/// or is told what another receiver heard.
 #[derive(Drop)]
 pub struct Controller {
     receiver: Receiver,
@@ -58,20 +62,34 @@ impl Controller {
         ensures stands { (station : StationData) (starts : Bool) (takes : List Take) (past : List Pair) → ControllerStands LAG station starts takes self.old past →
             ControllerStands LAG station starts takes self.new (heard ∷ past) }
     {
-        let moment = self.receiver.hear(now, heard);
-        self.step(&moment)
+        let moment = self.receive(now, heard);
+        self.learn(&moment)
     }
 
-    /// The same where it has no control: no message ends in the tick.
+    /// What its own receiver tells of the tick. Of all else it hears that tick by `learn`.
     #[inline(always)]
-    pub fn listen(&mut self, now: Tick, heard: Pair)
-        requires { (station : StationData) × (starts : Bool) × (takes : List Take) × (past : List Pair) ×
-            ControllerStands LAG station starts takes self.old past × ((course LAG station starts takes past).holds ≡ false)
-            × (now.0 ≡ length past) × (length past < 2 ^ 60) }
-        ensures { (station : StationData) (starts : Bool) (takes : List Take) (past : List Pair) → ControllerStands LAG station starts takes self.old past →
-            (course LAG station starts takes past).holds ≡ false → ControllerStands LAG station starts takes self.new (heard ∷ past) }
+    pub fn receive(&mut self, now: Tick, heard: Pair) -> Moment
+        requires { (past : List Pair) × ReceiverStands LAG self.old.receiver past × (now.0 ≡ length past) × (length past < 2 ^ 60) }
+        ensures state { self.new.state ≡ self.old.state }
+        ensures moment { (past : List Pair) → ReceiverStands LAG self.old.receiver past → result ≡ moment_of LAG heard past }
+        ensures stands { (past : List Pair) → ReceiverStands LAG self.old.receiver past → ReceiverStands LAG self.new.receiver (heard ∷ past) }
+        ensures hears { CuttersHear LAG self.old.receiver.cutters self.new.receiver.cutters heard result.cuts }
     {
-        let _ = self.receiver.hear(now, heard);
+        self.receiver.hear(now, heard)
+    }
+
+    /// Hears the newest tick as `hear` does, where a receiver told this of it. Its own receiver doesn't hear it. Where it has no control it needs to hear
+    /// nothing.
+    #[inline(always)]
+    pub fn learn(&mut self, moment: &Moment) -> ControllerEvent
+        ensures event { (station : StationData) (starts : Bool) (takes : List Take) (past : List Pair) → ControllerKeeps LAG station starts takes self.old past →
+            moment.now ≡ moment_of LAG moment.now.shown past →
+            (course LAG station starts takes (moment.now.shown ∷ past)).ended ≡ told result ++ (course LAG station starts takes past).ended }
+        ensures stands { (station : StationData) (starts : Bool) (takes : List Take) (past : List Pair) → ControllerKeeps LAG station starts takes self.old past →
+            moment.now ≡ moment_of LAG moment.now.shown past → ControllerKeeps LAG station starts takes self.new (moment.now.shown ∷ past) }
+        ensures receiver { self.new.receiver ≡ self.old.receiver }
+    {
+        self.step(moment)
     }
 
     // Mostly nothing begins or ends in a tick: then the state isn't moved.
@@ -104,7 +122,7 @@ impl Controller {
 
     /// What it sends in the tick to come.
     pub fn drive(&self) -> Drive
-        ensures { (station : StationData) (starts : Bool) (takes : List Take) (past : List Pair) → ControllerStands LAG station starts takes self.now past →
+        ensures { (station : StationData) (starts : Bool) (takes : List Take) (past : List Pair) → ControllerKeeps LAG station starts takes self.now past →
             result ≡ drive_course LAG past (course LAG station starts takes past) }
     {
         self.state.drive()
@@ -121,6 +139,16 @@ impl Controller {
     {
         let next = self.receiver.next();
         let quiet = self.receiver.quiet();
+        self.take_with(first, next, quiet);
+    }
+
+    /// Takes control as `take` does, where `next` is the tick to come, before which both channels were quiet for that many ticks in a row.
+    pub fn take_with(&mut self, first: Tick, next: Tick, quiet: u64)
+        ensures stands { (station : StationData) (starts : Bool) (takes : List Take) (past : List Pair) → ControllerKeeps LAG station starts takes self.old past →
+            (course LAG station starts takes past).holds ≡ false → length past ≤ first.0 → next.0 ≡ length past → quiet ≡ quiet_both past →
+            ControllerKeeps LAG station starts (takes ++ record { heard = length past; first = first.0 } ∷ []) self.new past }
+        ensures receiver { self.new.receiver ≡ self.old.receiver }
+    {
         self.take_at(first, next, quiet);
     }
 
@@ -137,7 +165,7 @@ impl Controller {
 
     /// Whether it has no control.
     pub fn is_yielded(&self) -> bool
-        ensures { (station : StationData) (starts : Bool) (takes : List Take) (past : List Pair) → ControllerStands LAG station starts takes self.now past →
+        ensures { (station : StationData) (starts : Bool) (takes : List Take) (past : List Pair) → ControllerKeeps LAG station starts takes self.now past →
             result ≡ not (course LAG station starts takes past).holds }
     {
         self.state.serves()
@@ -145,7 +173,7 @@ impl Controller {
 
     /// Whether no message is open and no item is left.
     pub fn is_idle(&self) -> bool
-        ensures { (station : StationData) (starts : Bool) (takes : List Take) (past : List Pair) → ControllerStands LAG station starts takes self.now past →
+        ensures { (station : StationData) (starts : Bool) (takes : List Take) (past : List Pair) → ControllerKeeps LAG station starts takes self.now past →
             result ≡ (is_none (course LAG station starts takes past).runs && not (has_items (course LAG station starts takes past).left)) }
     {
         self.items_left() == 0
@@ -153,7 +181,7 @@ impl Controller {
 
     /// How many items are left: those of which no attempt was the last.
     pub fn items_left(&self) -> u32
-        ensures { (station : StationData) (starts : Bool) (takes : List Take) (past : List Pair) → ControllerStands LAG station starts takes self.now past →
+        ensures { (station : StationData) (starts : Bool) (takes : List Take) (past : List Pair) → ControllerKeeps LAG station starts takes self.now past →
             result ≡ length (course LAG station starts takes past).left }
     {
         self.state.items_left()

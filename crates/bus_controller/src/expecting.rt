@@ -9,7 +9,7 @@ ghost use Rattle.bus_controller.specs.Steps.{kept, read, first_read, good_first,
 ghost use Rattle.bus_controller.specs.Steps as spec;
 ghost use Rattle.bus_base.specs.declared.samples.Pair.{Pair};
 ghost use Rattle.bus_model.specs.Course.{Course};
-ghost use Rattle.bus_controller.specs.Moments.{moment_of};
+ghost use Rattle.bus_receiver.specs.Moments.{moment_of};
 ghost use Rattle.bus_controller.specs.Stands.{ExpectingStands, NextStands};
 ghost use Rattle.bus_formats.specs.Forms.{answers_of};
 
@@ -17,12 +17,12 @@ use crate::agenda::Agenda;
 use crate::attempt::{Begun, Ended, is_offer, kept_words};
 use crate::close::close;
 use crate::doubting::doubt;
-use crate::moment::Moment;
 use crate::states::{ControllerNext, ControllerState};
 use arrayvec::ArrayVec;
 use bus_base::{Channel, Part, Sample, Tick};
 use bus_formats::{NO_RESPONSE, Outcome, Reading, answers, read_answer};
 use bus_line::{Cut, LAG};
+use bus_receiver::Moment;
 use bus_words::{Status, Word};
 
 /// The slots of an answer that are kept: one more than any answer that is due has.
@@ -117,7 +117,7 @@ impl Expecting {
     fn hear_silence(self, moment: Moment) -> ControllerNext
         ensures { result ≡ silent self moment }
     {
-        if moment.next.0.saturating_sub(self.end.0) <= u64::from(NO_RESPONSE) {
+        if moment.next().0.saturating_sub(self.end.0) <= u64::from(NO_RESPONSE) {
             return ControllerNext::going(ControllerState::Expecting(self));
         }
         let part = if self.first.is_none() {
@@ -151,7 +151,7 @@ impl Expecting {
             moment.sample(self.begun.state.channel),
         ) {
             (None, Some(ticks), Sample::Plus | Sample::Minus) => {
-                moment.next.0.saturating_sub(self.end.0) == u64::from(ticks)
+                moment.next().0.saturating_sub(self.end.0) == u64::from(ticks)
             }
             _ => false,
         }
@@ -172,7 +172,7 @@ impl Expecting {
 fn end_known(moment: Moment) -> Tick
     ensures { result ≡ record { 0 = moment.tick.0 - LAG } }
 {
-    Tick(moment.tick.0.saturating_sub(u64::from(LAG)))
+    Tick(moment.tick().0.saturating_sub(u64::from(LAG)))
 }
 
 // Whether an answer is awaited on, where none has begun before this tick.
@@ -181,7 +181,7 @@ fn is_awaited(end: Tick, channel: Channel, moment: &Moment) -> bool
     ensures { result ≡ (is_quiet (sample_on moment.now.shown channel) && nat_le (moment.now.next.0 - end.0) no_response) }
 {
     match moment.sample(channel) {
-        Sample::Quiet => moment.next.0.saturating_sub(end.0) <= u64::from(NO_RESPONSE),
+        Sample::Quiet => moment.next().0.saturating_sub(end.0) <= u64::from(NO_RESPONSE),
         Sample::Plus | Sample::Minus => false,
     }
 }

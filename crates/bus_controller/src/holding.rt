@@ -3,18 +3,18 @@ ghost use Rattle.std.specs.Prelude.{◌≡◌, true, false, List};
 ghost use Rattle.bus_base.specs.declared.samples.Pair.{Pair};
 ghost use Rattle.bus_line.specs.declared.cutter.TheConstants.{LAG};
 ghost use Rattle.bus_model.specs.Course.{Course};
-ghost use Rattle.bus_controller.specs.Moments.{moment_of};
+ghost use Rattle.bus_receiver.specs.Moments.{moment_of};
 ghost use Rattle.bus_controller.specs.Stands.{HoldingStands, NextStands};
 ghost use Rattle.bus_controller.specs.Steps.{may_start, starts_with, begins_with, waits, begins, from_holding, going};
 ghost use Rattle.bus_controller.specs.declared.states.ControllerState.TheVariants as states;
 
 use crate::agenda::Agenda;
-use crate::moment::Moment;
 use crate::opening::Opening;
 use crate::sending::Sending;
 use crate::settling::Settling;
 use crate::states::{ControllerNext, ControllerState};
 use bus_base::Tick;
+use bus_receiver::Moment;
 
 /// No message is open, and the next starts as soon as it may.
 #[derive(Drop)]
@@ -50,16 +50,16 @@ impl Holding {
         ensures stays { result ≡ true → from_holding self.old moment.now ≡ going (states.Holding self.new) }
         ensures same { result ≡ false → self.new ≡ self.old }
     {
-        if self.opening.is_unsettled(moment.quiet) {
+        if self.opening.is_unsettled(moment.quiet()) {
             return false;
         }
         if self
             .agenda
-            .may_start(self.opening, moment.quiet, moment.next)
+            .may_start(self.opening, moment.quiet(), moment.next())
         {
             return false;
         }
-        self.quiet = moment.quiet;
+        self.quiet = moment.quiet();
         true
     }
 
@@ -70,7 +70,7 @@ impl Holding {
         ensures stands { (c : Course) (shown : Pair) (past : List Pair) → HoldingStands c past self → moment ≡ moment_of LAG shown past →
             NextStands LAG c shown past result }
     {
-        ControllerNext::going(wait(self.agenda, self.opening, moment.next, moment.quiet))
+        ControllerNext::going(wait(self.agenda, self.opening, moment.next(), moment.quiet()))
     }
 }
 

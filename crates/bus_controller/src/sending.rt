@@ -7,7 +7,7 @@ ghost use Rattle.bus_line.specs.declared.cutter.TheConstants.{LAG};
 ghost use Rattle.bus_model.specs.Sending.{drive_sample};
 ghost use Rattle.bus_base.specs.declared.samples.Part.TheVariants.{Command};
 ghost use Rattle.bus_model.specs.Course.{Course, drive_course};
-ghost use Rattle.bus_controller.specs.Moments.{moment_of};
+ghost use Rattle.bus_receiver.specs.Moments.{moment_of};
 ghost use Rattle.bus_controller.specs.Stands.{SendingStands, NextStands};
 ghost use Rattle.bus_controller.specs.Steps.{sends, from_sending, quiet_more, command_ended, going};
 ghost use Rattle.bus_controller.specs.declared.states.ControllerState.TheVariants as states;
@@ -16,12 +16,12 @@ use crate::agenda::Agenda;
 use crate::attempt::{Begun, Ended};
 use crate::close::close;
 use crate::expecting::Expecting;
-use crate::moment::Moment;
 use crate::states::{ControllerNext, ControllerState};
 use arrayvec::ArrayVec;
 use bus_base::{Drive, Part, Sample};
 use bus_formats::{Outcome, answers, command_burst};
 use bus_line::{LAG, sample_of};
+use bus_receiver::Moment;
 use bus_words::Word;
 
 /// A message's command is sent, until its own channel is quiet for four ticks in a row.

@@ -3,17 +3,17 @@ ghost use Rattle.std.specs.Prelude.{◌≡◌, true, List};
 ghost use Rattle.bus_base.specs.declared.samples.Pair.{Pair};
 ghost use Rattle.bus_line.specs.declared.cutter.TheConstants.{LAG};
 ghost use Rattle.bus_model.specs.Course.{Course};
-ghost use Rattle.bus_controller.specs.Moments.{moment_of};
+ghost use Rattle.bus_receiver.specs.Moments.{moment_of};
 ghost use Rattle.bus_controller.specs.Stands.{SettlingStands, NextStands};
 ghost use Rattle.bus_controller.specs.Steps.{from_settling, going};
 ghost use Rattle.bus_controller.specs.declared.states.ControllerState.TheVariants as states;
 
 use crate::agenda::Agenda;
 use crate::holding::wait;
-use crate::moment::Moment;
 use crate::opening::Opening;
 use crate::states::ControllerNext;
 use bus_formats::SETTLING_QUIET;
+use bus_receiver::Moment;
 
 /// No message is open, and both channels were quiet for fewer than 40 ticks.
 #[derive(Drop)]
@@ -27,7 +27,7 @@ impl Settling {
     pub(crate) fn stays(&self, moment: &Moment) -> bool
         ensures { result ≡ true → from_settling self.now moment.now ≡ going (states.Settling self.now) }
     {
-        moment.quiet < u64::from(SETTLING_QUIET)
+        moment.quiet() < u64::from(SETTLING_QUIET)
     }
 
     /// Hears a tick. Whatever course and past it stands for, the next state stands for them one tick later, and it tells of the attempt that ended
@@ -40,6 +40,6 @@ impl Settling {
         let opening = Opening::Usual {
             need: SETTLING_QUIET,
         };
-        ControllerNext::going(wait(self.agenda, opening, moment.next, moment.quiet))
+        ControllerNext::going(wait(self.agenda, opening, moment.next(), moment.quiet()))
     }
 }

@@ -3,19 +3,19 @@ ghost use Rattle.std.specs.Prelude.{◌≡◌, true, false, not, List, length};
 ghost use Rattle.bus_base.specs.declared.samples.Pair.{Pair};
 ghost use Rattle.bus_line.specs.declared.cutter.TheConstants.{LAG};
 ghost use Rattle.bus_model.specs.Course.{Course, drive_course};
-ghost use Rattle.bus_controller.specs.Moments.{moment_of};
+ghost use Rattle.bus_receiver.specs.Moments.{moment_of};
 ghost use Rattle.bus_controller.specs.Stands.{StateStands, NextStands};
 ghost use Rattle.bus_controller.specs.Steps.{going, next_of_state, driven_by, serves, left_of, taken_by};
 
 use crate::doubting::Doubting;
 use crate::expecting::Expecting;
 use crate::holding::{Holding, wait};
-use crate::moment::Moment;
 use crate::sending::Sending;
 use crate::settling::Settling;
 use crate::yielded::Yielded;
 use bus_base::{Drive, Tick};
 use bus_formats::Attempt;
+use bus_receiver::Moment;
 
 /// A controller in one of its states.
 #[derive(Drop)]

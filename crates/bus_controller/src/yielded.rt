@@ -3,16 +3,16 @@ ghost use Rattle.std.specs.Prelude.{◌≡◌, ◌≤◌, List, length};
 ghost use Rattle.bus_base.specs.declared.samples.Pair.{Pair};
 ghost use Rattle.bus_line.specs.declared.cutter.TheConstants.{LAG};
 ghost use Rattle.bus_model.specs.Course.{Course, take_control};
-ghost use Rattle.bus_controller.specs.Moments.{moment_of};
+ghost use Rattle.bus_receiver.specs.Moments.{moment_of};
 ghost use Rattle.bus_controller.specs.Stands.{YieldedStands, WaitStands, NextStands};
 ghost use Rattle.bus_controller.specs.Steps.{from_yielded, taken};
 
 use crate::agenda::Agenda;
 use crate::holding::Holding;
-use crate::moment::Moment;
 use crate::opening::Opening;
 use crate::states::{ControllerNext, ControllerState};
 use bus_base::Tick;
+use bus_receiver::Moment;
 
 /// It sends nothing.
 #[derive(Drop)]

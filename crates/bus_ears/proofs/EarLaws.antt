@@ -5,9 +5,8 @@ use Rattle.bus_base.specs.declared.samples.Sample.{Sample}
 use Rattle.bus_words.specs.declared.word.Word.{Word}
 use Rattle.bus_line.specs.declared.cutter.Cut.{Cut}
 use Rattle.bus_line.specs.declared.cutter.Cut.TheVariants as cuts
-use Rattle.bus_line.specs.declared.cutter.Cutter.{Cutter}
 use Rattle.bus_line.specs.Past.{Slot, slot_now, ended_now, newest_burst}
-use Rattle.bus_line.specs.Cutting.{CutterStands, cut_now, Tells, Collects, running_slots}
+use Rattle.bus_line.specs.Cutting.{cut_now, Tells, Collects, running_slots}
 use Rattle.bus_model.specs.Orders.{command_for}
 use Rattle.bus_model.specs.Standing.{ignored_from}
 use Rattle.bus_ears.specs.Ears.{EarStands, Holds, Ignores, IsHeard, AreTold, told_if, sent_by, addressed_by}
@@ -111,40 +110,35 @@ end-fits k x heard (cuts.Ended slots rest) small tells =
 
 -- ---- the ear
 
-keeps-cutter : (k most own now : ℕ) (cut : Cut) (ignored : Bool) (ear : Ear) (o : Option ℕ) (word : Option Word) →
-    ((with_slot most now ignored ear word o).cutter ≡ ear.cutter) × ((with_slot most now ignored ear word o).sending ≡ ear.sending)
-keeps-cutter k most own now cut ignored ear None word = (refl, refl)
-keeps-cutter k most own now cut ignored ear (Some command) word = (refl, refl)
+-- a slot leaves the own transmission
+slot-keeps : (most now : ℕ) (ignored : Bool) (ear : Ear) (o : Option ℕ) (word : Option Word) → (with_slot most now ignored ear word o).sending ≡ ear.sending
+slot-keeps most now ignored ear None word = refl
+slot-keeps most now ignored ear (Some command) word = refl
 
-cut-keeps : (k most own now : ℕ) (cut : Cut) (ignored : Bool) (ear : Ear) →
-    ((after_cut k most own now cut ignored ear).cutter ≡ ear.cutter) × ((after_cut k most own now cut ignored ear).sending ≡ ear.sending)
-cut-keeps k most own now cuts.Nothing ignored ear = (refl, refl)
-cut-keeps k most own now (cuts.Slot i word) ignored ear = keeps-cutter k most own now (cuts.Slot i word) ignored ear (command_for own word) word
-cut-keeps k most own now (cuts.Ended slots rest) ignored ear = (refl, refl)
+-- so does what became known
+cut-keeps : (k most own now : ℕ) (cut : Cut) (ignored : Bool) (ear : Ear) → (after_cut k most own now cut ignored ear).sending ≡ ear.sending
+cut-keeps k most own now cuts.Nothing ignored ear = refl
+cut-keeps k most own now (cuts.Slot i word) ignored ear = slot-keeps most now ignored ear (command_for own word) word
+cut-keeps k most own now (cuts.Ended slots rest) ignored ear = refl
 
--- an ear that follows its cutter
-pub ear-stands : (k most own : ℕ) (ear after : Ear) (cutter : Cutter) (x : Sample) (heard : List Sample) (sent addressed sending : Option ℕ)
-    (begins ignored : Bool) (now : ℕ) (cut : Cut) →
+-- an ear that follows what became known
+pub ear-stands : (k most own : ℕ) (ear after : Ear) (x : Sample) (heard : List Sample) (sent addressed sending : Option ℕ) (begins ignored : Bool)
+    (now : ℕ) (cut : Cut) →
     k ≤ 39 → EarStands k most own ear heard sent addressed → length heard ≡ now → ignored ≡ is_some ear.sending → cut ≡ cut_now k (x ∷ heard) →
-    CutterStands k cutter (x ∷ heard) → after ≡ after_cut k most own now cut ignored (record ear { cutter = cutter }) →
-    sending ≡ still_sending k (sending_from begins after.sending) x →
+    after ≡ after_cut k most own now cut ignored ear → sending ≡ still_sending k (sending_from begins after.sending) x →
     EarStands k most own (record after { sending = sending }) (x ∷ heard) (sent_by now begins sent)
     (addressed_by own now (slot_now k (x ∷ heard)) (ignored_from k heard sent) addressed)
-ear-stands k most own ear after cutter x heard sent addressed sending begins ignored now cut small st here ig is new follows sends =
-    let before : Ear = record ear { cutter = cutter } in
+ear-stands k most own ear after x heard sent addressed sending begins ignored now cut small st here ig is follows sends =
     let ignored_is : ignored ≡ ignored_from k heard sent = ig ∙ ignores-is k ear.sending heard sent st.ignores in
-    let keeps = cut-keeps k most own now cut ignored before in
     let tells : Tells k (x ∷ heard) cut = rw is (cut-tells k (x ∷ heard)) in
     let collects : Collects cut (running_slots k heard) (running_slots k (x ∷ heard)) = rw is (cut-collects k x heard small) in
-    let marks : IsAfter most own (suc now) (after_cut k most own now cut ignored before) (running_slots k (x ∷ heard))
+    let marks : IsAfter most own (suc now) (after_cut k most own now cut ignored ear) (running_slots k (x ∷ heard))
     (addressed_by own now (slot_now k (x ∷ heard)) ignored addressed) =
-    after-any k most own before now ignored heard (x ∷ heard) addressed cut st.slots st.addressed_is (rw (← here) st.before) tells collects in
-    let same_sending : after.sending ≡ ear.sending = ap (λ (e : Ear). e.sending) follows ∙ keeps.1 in
-    let same_cutter : after.cutter ≡ cutter = ap (λ (e : Ear). e.cutter) follows ∙ keeps.0 in
+    after-any k most own ear now ignored heard (x ∷ heard) addressed cut st.slots st.addressed_is (rw (← here) st.before) tells collects in
+    let same_sending : after.sending ≡ ear.sending = ap (λ (e : Ear). e.sending) follows ∙ cut-keeps k most own now cut ignored ear in
     let sends_more : Ignores k (still_sending k (sending_from begins ear.sending) x) (x ∷ heard) (sent_by (length heard) begins sent) =
     ignores-more k ear.sending begins x heard sent st.ignores in
     record {
-      cutter = rw same_cutter new;
       slots = rw follows marks.slots_are;
       addressed_is = rw (follows, ← ignored_is) marks.mark;
       before = subst (λ (n : ℕ). IfSome (addressed_by own now (slot_now k (x ∷ heard)) (ignored_from k heard sent) addressed) (λ tick. tick < suc n))
@@ -152,14 +146,14 @@ ear-stands k most own ear after cutter x heard sent addressed sending begins ign
       ignores = rw (sends, same_sending, ← here) sends_more;
     }
 
-pub ear-tells : (k most own : ℕ) (ear after : Ear) (cutter : Cutter) (x : Sample) (heard : List Sample) (sent addressed : Option ℕ) (ignored ended : Bool)
+pub ear-tells : (k most own : ℕ) (ear after : Ear) (x : Sample) (heard : List Sample) (sent addressed : Option ℕ) (ignored ended : Bool)
     (now : ℕ) (cut : Cut) →
     EarStands k most own ear heard sent addressed → length heard ≡ now → ignored ≡ is_some ear.sending → cut ≡ cut_now k (x ∷ heard) →
-    after ≡ after_cut k most own now cut ignored (record ear { cutter = cutter }) → ended ≡ is_end cut →
+    after ≡ after_cut k most own now cut ignored ear → ended ≡ is_end cut →
     IsHeard k most own (record { burst = told_if ended after.last; ignored = ignored }) (x ∷ heard) (ignored_from k heard sent)
-ear-tells k most own ear after cutter x heard sent addressed ignored ended now cut st here ig is follows ends =
+ear-tells k most own ear after x heard sent addressed ignored ended now cut st here ig is follows ends =
     let tells : Tells k (x ∷ heard) cut = rw is (cut-tells k (x ∷ heard)) in
     record {
-      burst = rw (ends, follows, ← here) (told-any k most own (record ear { cutter = cutter }) ignored x heard cut st.slots tells);
+      burst = rw (ends, follows, ← here) (told-any k most own ear ignored x heard cut st.slots tells);
       ignored_is = ig ∙ ignores-is k ear.sending heard sent st.ignores;
     }

@@ -3,7 +3,7 @@ use Rattle.std.specs.Prelude.{◌≡◌, ℕ, ◌-◌, ◌<◌, ◌≤◌, min, 
 use Rattle.bus_base.specs.declared.samples.Sample.{Sample}
 use Rattle.bus_words.specs.declared.word.Word.{Word}
 use Rattle.bus_line.specs.Past.{Slot, Burst, quiet, end_of, rest_of, end_since, ended_now}
-use Rattle.bus_line.specs.Cutting.{CutterStands, running_slots}
+use Rattle.bus_line.specs.Cutting.{running_slots}
 use Rattle.bus_model.specs.Orders.{last_order}
 use Rattle.bus_model.specs.Hearing.{is_addressed}
 use Rattle.bus_model.specs.Standing.{ignored_from}
@@ -33,7 +33,6 @@ Ignores k (Some quiet_ticks) heard (Some first) = IsSending k quiet_ticks heard 
 -- the ear of the terminal with the address own stands for what the channel showed, the first tick of the terminal's last transmission
 -- there, and the tick in which the last addressed slot ended
 pub record EarStands (k most own : ℕ) (ear : Ear) (heard : List Sample) (sent addressed : Option ℕ) : Type 0 where
-  pub cutter : CutterStands k ear.cutter heard
   pub slots : Holds most own ear.command ear.slots.items (running_slots k heard)
   pub addressed_is : ear.addressed ≡ addressed
   pub before : IfSome addressed (λ tick. tick < length heard)

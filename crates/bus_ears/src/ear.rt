@@ -5,6 +5,7 @@
 ghost use Rattle.std.specs.Prelude.{◌≡◌, ◌≤◌, ◌<◌, ◌+◌, ◌-◌, ◌*◌, ◌^◌, ℕ, List, [], ◌∷◌, ◌++◌, length, take, Option, Some, None, Bool, true, false, if◌then◌else◌};
 ghost use Rattle.bus_base.specs.declared.samples.Sample.{Sample};
 ghost use Rattle.bus_line.specs.Past.{quiet_ticks, slot_now};
+ghost use Rattle.bus_line.specs.Cutting.{cut_now};
 ghost use Rattle.bus_line.specs.declared.cutter.TheConstants.{LAG};
 ghost use Rattle.bus_model.specs.Orders as orders;
 ghost use Rattle.bus_model.specs.Standing.{ignored_from};
@@ -14,7 +15,7 @@ ghost use Rattle.bus_ears.specs.Steps.{EndFits, after_cut, with_slot, is_end, wi
 use arrayvec::ArrayVec;
 use bus_base::Sample;
 use bus_formats::command_in;
-use bus_line::{Cut, Cutter, LAG};
+use bus_line::{Cut, LAG};
 use bus_words::{Command, Word};
 
 /// The most slots that an ear keeps.
@@ -23,7 +24,6 @@ pub const MOST_SLOTS: usize = 34;
 /// A terminal's ear for one channel.
 #[derive(Drop)]
 pub struct Ear {
-    cutter: Cutter,
     // the last command for the terminal in the burst that runs, and the slots after it, or all slots where there is none
     command: Option<Command>,
     slots: ArrayVec<Option<Word>, 34>,
@@ -66,7 +66,6 @@ impl Ear {
         ensures { (own n : ℕ) → EarStands LAG MOST_SLOTS own result (quiet_ticks n) None None }
     {
         Ear {
-            cutter: Cutter::new(),
             command: None,
             slots: ArrayVec::new(),
             addressed: None,
@@ -81,20 +80,21 @@ impl Ear {
         }
     }
 
-    /// Hears what the channel shows in tick `now`, for the terminal with the address `own`. `begins` says that the terminal's own
-    /// transmission begins on it in this tick.
+    /// Hears tick `now` of the channel, what it shows and what became known with it, for the terminal with the address `own`. `begins` says
+    /// that the terminal's own transmission begins on it in this tick.
     #[inline(always)]
-    pub fn hear(&mut self, own: u8, now: u64, sample: Sample, begins: bool) -> HeardTick
+    pub fn hear(&mut self, own: u8, now: u64, cut: Cut, sample: Sample, begins: bool) -> HeardTick
         requires { (heard : List Sample) × (sent : Option ℕ) × (addressed : Option ℕ) × EarStands LAG MOST_SLOTS own self.old heard sent addressed
-            × (length heard ≡ now) × (now < 2 ^ 60) }
-        ensures stands { (heard : List Sample) (sent addressed : Option ℕ) → EarStands LAG MOST_SLOTS own self.old heard sent addressed → length heard ≡ now →
+            × (cut ≡ cut_now LAG (sample ∷ heard)) × (length heard ≡ now) × (now < 2 ^ 60) }
+        ensures stands { (heard : List Sample) (sent addressed : Option ℕ) → EarStands LAG MOST_SLOTS own self.old heard sent addressed →
+            cut ≡ cut_now LAG (sample ∷ heard) → length heard ≡ now →
             EarStands LAG MOST_SLOTS own self.new (sample ∷ heard) (sent_by now begins sent)
             (addressed_by own now (slot_now LAG (sample ∷ heard)) (ignored_from LAG heard sent) addressed) }
-        ensures tells { (heard : List Sample) (sent addressed : Option ℕ) → EarStands LAG MOST_SLOTS own self.old heard sent addressed → length heard ≡ now →
+        ensures tells { (heard : List Sample) (sent addressed : Option ℕ) → EarStands LAG MOST_SLOTS own self.old heard sent addressed →
+            cut ≡ cut_now LAG (sample ∷ heard) → length heard ≡ now →
             IsHeard LAG MOST_SLOTS own (heard_of self.new result) (sample ∷ heard) (ignored_from LAG heard sent) }
     {
         let ignored = self.sending.is_some();
-        let cut = self.cutter.hear(sample);
         let ended = self.follow(own, now, cut, ignored);
         self.sending = sending_after(self.sending, sample, begins);
         HeardTick { ended, ignored }

@@ -6,16 +6,22 @@ use Rattle.bus_line.specs.declared.cutter.TheConstants.{LAG}
 use Rattle.bus_formats.specs.Plans.{StationData, PlanData}
 use Rattle.bus_model.specs.Starts.{starts}
 use Rattle.bus_model.specs.World.{clashes}
-use Rattle.bus_station.specs.StationStands.{StationStands}
+use Rattle.bus_station.specs.StationStands.{StationStands, StationKeeps}
 use Rattle.bus_station.specs.declared.station.Station.{Station}
 use Rattle.bus_wire.specs.WireStands.{WireStands}
 use Rattle.bus_run.specs.declared.driven_wire.DrivenWire.{DrivenWire}
 
--- each station stands for its plan and what the channels showed
+-- each station that has heard nothing yet stands for its plan
+pub record StationsBegin (plan : PlanData) (stations : List Station) : Type 0 where
+  pub all : length stations ≡ length plan.stations
+  pub each : (i : ℕ) (s : StationData) (value : Station) → slice_get plan.stations i ≡ Some s → slice_get stations i ≡ Some value →
+      StationStands LAG s (starts plan s) [] [] value []
+
+-- each station keeps what its plan and what the channels showed leave
 pub record StationsStand (plan : PlanData) (stations : List Station) (past : List Pair) : Type 0 where
   pub all : length stations ≡ length plan.stations
   pub each : (i : ℕ) (s : StationData) (value : Station) → slice_get plan.stations i ≡ Some s → slice_get stations i ≡ Some value →
-      StationStands LAG s (starts plan s) [] [] value past
+      StationKeeps LAG s (starts plan s) [] [] value past
 
 -- the wire stands for what was driven, with a place for the drive of each station
 pub record DrivenWireStands (plan : PlanData) (driven_wire : DrivenWire) (driven : List (List Drive)) : Type 0 where

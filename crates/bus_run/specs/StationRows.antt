@@ -8,7 +8,10 @@ use Rattle.bus_formats.specs.declared.log.Attempt.{Attempt}
 use Rattle.bus_formats.specs.declared.log.Delivery.{Delivery}
 use Rattle.bus_model.specs.Starts.{starts}
 use Rattle.bus_model.specs.WorldLog.{attempts}
-use Rattle.bus_station.specs.StationStands.{StationStands}
+use Rattle.bus_receiver.specs.Moments.{ReceiverStands}
+use Rattle.bus_receiver.specs.declared.cutters.Cutters.{Cutters}
+use Rattle.bus_station.specs.Listening.{InStep}
+use Rattle.bus_station.specs.StationStands.{StationKeeps}
 use Rattle.bus_station.specs.Told.{ended_newest}
 use Rattle.bus_station.specs.declared.event.StationEvent.{StationEvent}
 use Rattle.bus_station.specs.declared.role.Role.{Role}
@@ -19,6 +22,11 @@ use Rattle.bus_run.specs.Deliveries.{deliveries, delivering, served, ObjectsOf, 
 use Rattle.bus_run.specs.Parts.{StationsStand}
 use Rattle.bus_run.specs.declared.station_row.StationRow.{StationRow}
 
+-- each station keeps what the channels' past leaves, and is in step with these cutters
+abbrev pub AreInStep : PlanData → List Station → Cutters → List Pair → Type 0
+AreInStep plan stations bus past = (i : ℕ) (s : StationData) (value : Station) → slice_get plan.stations i ≡ Some s → slice_get stations i ≡ Some value →
+    InStep LAG s (starts plan s) [] [] value bus past
+
 -- the row stands for what the channels showed; it has room for an attempt of each station beside so many, and a place for the object of each
 pub record RowStands (most : ℕ) (plan : PlanData) (row : StationRow) (past : List Pair) : Type 0 where
   pub stations : StationsStand plan row.stations.items past
@@ -26,6 +34,8 @@ pub record RowStands (most : ℕ) (plan : PlanData) (row : StationRow) (past : L
   pub room : most + length row.stations.items ≤ vec_capacity row.attempts
   pub objects : ObjectsOf plan row.objects.items
   pub delivering_is : row.delivering ≡ delivering plan past
+  pub receiver : ReceiverStands LAG row.receiver past
+  pub in_step : AreInStep plan row.stations.items row.receiver.cutters past
 
 -- a station with this role is taking control
 abbrev pub takes : Role → Bool
@@ -45,10 +55,16 @@ heard_at i place shown past = if nat_lt i place then shown ∷ past else past
 abbrev pub ended_of : PlanData → List Pair → StationData → List Attempt
 ended_of plan past station = ended_newest LAG station (starts plan station) [] [] past
 
-pub record RowHears (plan : PlanData) (place : ℕ) (shown : Pair) (past : List Pair) (row : StationRow) : Type 0 where
+-- a station that has heard the newest tick, or not yet: the receiver's cutters were and are these
+abbrev pub KeepsAt : PlanData → Cutters → Cutters → Pair → List Pair → StationData → Station → Bool → Type 0
+KeepsAt plan before after shown past s value heard =
+    StationKeeps LAG s (starts plan s) [] [] value (if heard then shown ∷ past else past)
+    × InStep LAG s (starts plan s) [] [] value (if heard then after else before) (if heard then shown ∷ past else past)
+
+pub record RowHears (plan : PlanData) (place : ℕ) (before : Cutters) (shown : Pair) (past : List Pair) (row : StationRow) : Type 0 where
   pub all : length row.stations.items ≡ length plan.stations
   pub each : (i : ℕ) (s : StationData) (value : Station) → slice_get plan.stations i ≡ Some s → slice_get row.stations.items i ≡ Some value →
-      StationStands LAG s (starts plan s) [] [] value (heard_at i place shown past)
+      KeepsAt plan before row.receiver.cutters shown past s value (nat_lt i place)
   pub attempts_are : row.attempts.items ≡ attempts LAG plan [] [] [] past ++ flat_map (ended_of plan (shown ∷ past)) (take place plan.stations)
   pub objects : ObjectsOf plan row.objects.items
 

@@ -9,9 +9,9 @@ ghost use Rattle.bus_model.specs.Terminal.{memory_after};
 ghost use Rattle.bus_model.specs.Message.{Present};
 ghost use Rattle.bus_model.specs.Log.{terminals, terminals_at, terminal_end, blocks_of};
 ghost use Rattle.bus_model.specs.Starts.{starts};
-ghost use Rattle.bus_station.specs.StationStands.{StationStands};
+ghost use Rattle.bus_station.specs.StationStands.{StationKeeps};
 ghost use Rattle.bus_model.specs.WorldLog.{presents, present_after};
-ghost use Rattle.bus_terminal.specs.TerminalStands.{TerminalStands};
+ghost use Rattle.bus_terminal.specs.TerminalStands.{TerminalKeeps};
 ghost use Rattle.bus_run.specs.Parts.{StationsStand};
 ghost use Rattle.bus_run.specs.Terminals.{EndsStand, ArePut, so_far, blocks_below, block_of};
 
@@ -81,12 +81,12 @@ impl Ends {
     // Puts the terminal of the station at a place, if it has this address.
     fn put_at(&mut self, address: u8, place: usize, station: &Station)
         requires place { place < length self.old.addresses.items }
-        requires stands { (plan : PlanData) × (s : StationData) × (past : List Pair) × StationStands LAG s (starts plan s) [] [] station.now past }
+        requires stands { (plan : PlanData) × (s : StationData) × (past : List Pair) × StationKeeps LAG s (starts plan s) [] [] station.now past }
         requires terminal_room { vec_len self.old.terminals < vec_capacity self.old.terminals }
         requires block_room { vec_len self.old.blocks + 30 ≤ vec_capacity self.old.blocks }
         ensures put { (plan : PlanData) (s : StationData) (past : List Pair) (found : List Present) →
             self.old.addresses.items ≡ map (λ s. s.terminal.address) plan.stations →
-            slice_get plan.stations place ≡ Some s → StationStands LAG s (starts plan s) [] [] station.now past → ArePut found self.old →
+            slice_get plan.stations place ≡ Some s → StationKeeps LAG s (starts plan s) [] [] station.now past → ArePut found self.old →
             ArePut (found ++ terminals_at (present_after LAG plan [] [] [] past s ∷ []) address) self.new }
         ensures addresses { self.new.addresses ≡ self.old.addresses }
         ensures terminals { vec_len self.new.terminals ≤ vec_len self.old.terminals + 1 }
@@ -102,11 +102,11 @@ impl Ends {
 
     // Puts a terminal and its blocks.
     fn put(&mut self, address: u8, terminal: &Terminal)
-        requires stands { (plan : TerminalData) × (hearing : Hearing) × TerminalStands LAG plan [] terminal.now hearing }
+        requires stands { (plan : TerminalData) × (hearing : Hearing) × TerminalKeeps LAG plan [] terminal.now hearing }
         requires terminal_room { vec_len self.old.terminals < vec_capacity self.old.terminals }
         requires block_room { vec_len self.old.blocks + 30 ≤ vec_capacity self.old.blocks }
         ensures put { (p : Present) (hearing : Hearing) (found : List Present) →
-            TerminalStands LAG p.plan.terminal [] terminal.now hearing →
+            TerminalKeeps LAG p.plan.terminal [] terminal.now hearing →
             p.memory ≡ memory_after LAG p.plan.terminal [] hearing → p.plan.terminal.address ≡ address → ArePut found self.old → ArePut
             (found ++ p ∷ []) self.new }
         ensures addresses { self.new.addresses ≡ self.old.addresses }

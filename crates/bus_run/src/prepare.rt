@@ -6,7 +6,7 @@ ghost use Rattle.bus_station.specs.Fits.{StationFits};
 ghost use Rattle.bus_run.specs.Kept.{named_in, object_at};
 ghost use Rattle.bus_run.specs.StationRows.{RowStands};
 ghost use Rattle.bus_run.specs.Monitors.{MonitorStands};
-ghost use Rattle.bus_run.specs.Parts.{StationsStand, DrivenWireStands};
+ghost use Rattle.bus_run.specs.Parts.{StationsBegin, DrivenWireStands};
 ghost use Rattle.bus_run.specs.Terminals.{EndsStand};
 
 use crate::copies::{copy_faults, copy_station};
@@ -22,14 +22,14 @@ use std::alloc::{AllocError, Global};
 /// The stations of a plan before the first tick.
 pub fn stations_of(alloc: Global, plan: &Plan) -> Result<Vec<Station>, AllocError>
     requires { All StationFits plan.now.stations }
-    ensures { IfOk result (λ made. StationsStand plan.now made.items []) }
+    ensures { IfOk result (λ made. StationsBegin plan.now made.items) }
 {
     made_of(alloc, plan.start, plan.stations.as_slice())
 }
 
 fn made_of(alloc: Global, start: u8, stations: &[StationPlan]) -> Result<Vec<Station>, AllocError>
     requires { All StationFits stations.now }
-    ensures { IfOk result (λ made. (plan : PlanData) → plan.start ≡ start → plan.stations ≡ stations.now → StationsStand plan made.items []) }
+    ensures { IfOk result (λ made. (plan : PlanData) → plan.start ≡ start → plan.stations ≡ stations.now → StationsBegin plan made.items) }
 {
     let mut made = Vec::new(alloc);
     for station in stations {

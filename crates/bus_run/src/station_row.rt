@@ -8,17 +8,20 @@ ghost use Rattle.bus_formats.specs.declared.log.Delivery.{Delivery};
 ghost use Rattle.bus_model.specs.Starts.{starts};
 ghost use Rattle.bus_model.specs.World.{is_done};
 ghost use Rattle.std.specs.List.{list_all};
-ghost use Rattle.bus_station.specs.StationStands.{StationStands};
+ghost use Rattle.bus_receiver.specs.declared.cutters.Cutters.{Cutters};
+ghost use Rattle.bus_station.specs.Listening.{InStep, IsNext};
+ghost use Rattle.bus_station.specs.StationStands.{StationKeeps};
 ghost use Rattle.bus_station.specs.Told.{attempts_told, delivery_told};
 ghost use Rattle.bus_run.specs.Amounts.{most_deliveries};
 ghost use Rattle.bus_run.specs.Data.{IsForData};
 ghost use Rattle.bus_run.specs.Deliveries.{delivering, delivered_of, ObjectsOf, Serves, IsHandedOn, AreHandedOut};
-ghost use Rattle.bus_run.specs.Parts.{StationsStand};
+ghost use Rattle.bus_run.specs.Parts.{StationsStand, StationsBegin};
 ghost use Rattle.bus_run.specs.StationRows.{RowStands, RowHears, ObjectsHear, takes, noticed_by};
 
 use crate::objects::deliver;
 use bus_base::{Pair, Tick};
 use bus_formats::{Attempt, Delivery};
+use bus_receiver::{Moment, Receiver};
 use bus_station::{Role, Station, StationEvent};
 use bus_subsystem::Subsystem;
 
@@ -31,6 +34,8 @@ pub struct StationRow {
     objects: Vec<Option<usize>>,
     // in how many ticks some terminal took a block
     delivering: u64,
+    // hears both channels for all stations
+    receiver: Receiver,
 }
 
 impl StationRow {
@@ -41,7 +46,7 @@ impl StationRow {
         objects: Vec<Option<usize>>,
     ) -> StationRow
         requires { attempts.items ≡ [] }
-        ensures { (most : ℕ) (plan : PlanData) → StationsStand plan stations.items [] → most + length stations.items ≤ vec_capacity attempts →
+        ensures { (most : ℕ) (plan : PlanData) → StationsBegin plan stations.items → most + length stations.items ≤ vec_capacity attempts →
             ObjectsOf plan objects.items → RowStands most plan result [] }
     {
         StationRow {
@@ -49,6 +54,7 @@ impl StationRow {
             attempts,
             objects,
             delivering: 0,
+            receiver: Receiver::new(),
         }
     }
 
@@ -64,9 +70,10 @@ impl StationRow {
             length past ≡ now.0 → Serves plan before past (map (λ b. told b) subsystems.old.items) (map (λ b. spare b) subsystems.old.items) →
             Serves plan before (shown ∷ past) (map (λ b. told b) subsystems.new.items) (map (λ b. spare b) subsystems.new.items) }
     {
+        let moment = self.receiver.hear(now, shown);
         let mut took = false;
         for place in 0..self.stations.len() {
-            took = took | self.hear_at(place, now, shown, subsystems);
+            took = took | self.hear_at(place, &moment, subsystems);
         }
         self.delivering = counted(self.delivering, took);
     }
@@ -76,32 +83,36 @@ impl StationRow {
     fn hear_at(
         &mut self,
         place: usize,
-        now: Tick,
-        shown: Pair,
+        moment: &Moment,
         subsystems: &mut Vec<Box<dyn Subsystem>>,
     ) -> bool
         requires place { place < length self.old.stations.items }
-        requires stands { (plan : PlanData) × (past : List Pair) × (before : List (Option (List Delivery))) × RowHears plan place shown past self.old
-            × ObjectsHear plan self.old.objects.items before place shown past (map (λ b. told b) subsystems.old.items) (map (λ b. spare b) subsystems.old.items)
-            × (length past ≡ now.0) × (now.0 < 2 ^ 32) × (delivering plan past ≤ most_deliveries plan) }
+        requires stands { (plan : PlanData) × (past : List Pair) × (before : List (Option (List Delivery))) × (bus : Cutters)
+            × RowHears plan place bus moment.now.shown past self.old
+            × ObjectsHear plan self.old.objects.items before place moment.now.shown past (map (λ b. told b) subsystems.old.items)
+            (map (λ b. spare b) subsystems.old.items)
+            × IsNext LAG moment.now bus self.old.receiver.cutters past × (length past < 2 ^ 32) × (delivering plan past ≤ most_deliveries plan) }
         requires room { vec_len self.old.attempts < vec_capacity self.old.attempts }
-        ensures stands { (plan : PlanData) (past : List Pair) → RowHears plan place shown past self.old → length past ≡ now.0 →
-            RowHears plan (place + 1) shown past self.new }
-        ensures took { (plan : PlanData) (past : List Pair) (s : StationData) → RowHears plan place shown past self.old → length past ≡ now.0 →
-            slice_get plan.stations place ≡ Some s → result ≡ is_some (delivered_of plan (shown ∷ past) s) }
-        ensures objects_hear { (plan : PlanData) (past : List Pair) (before : List (Option (List Delivery))) → RowHears plan place shown past self.old →
-            length past ≡ now.0 → ObjectsHear plan self.old.objects.items before place shown past
+        ensures stands { (plan : PlanData) (past : List Pair) (bus : Cutters) → RowHears plan place bus moment.now.shown past self.old →
+            IsNext LAG moment.now bus self.old.receiver.cutters past → RowHears plan (place + 1) bus moment.now.shown past self.new }
+        ensures took { (plan : PlanData) (past : List Pair) (bus : Cutters) (s : StationData) → RowHears plan place bus moment.now.shown past self.old →
+            IsNext LAG moment.now bus self.old.receiver.cutters past →
+            slice_get plan.stations place ≡ Some s → result ≡ is_some (delivered_of plan (moment.now.shown ∷ past) s) }
+        ensures objects_hear { (plan : PlanData) (past : List Pair) (before : List (Option (List Delivery))) (bus : Cutters) →
+            RowHears plan place bus moment.now.shown past self.old → IsNext LAG moment.now bus self.old.receiver.cutters past →
+            ObjectsHear plan self.old.objects.items before place moment.now.shown past
             (map (λ b. told b) subsystems.old.items) (map (λ b. spare b) subsystems.old.items) →
-            ObjectsHear plan self.old.objects.items before (place + 1) shown past
+            ObjectsHear plan self.old.objects.items before (place + 1) moment.now.shown past
             (map (λ b. told b) subsystems.new.items) (map (λ b. spare b) subsystems.new.items) }
         ensures all { length self.new.stations.items ≡ length self.old.stations.items }
         ensures len { vec_len self.new.attempts ≤ vec_len self.old.attempts + 1 }
         ensures room { vec_capacity self.new.attempts ≡ vec_capacity self.old.attempts }
         ensures objects { self.new.objects ≡ self.old.objects }
         ensures delivering { self.new.delivering ≡ self.old.delivering }
+        ensures receiver { self.new.receiver ≡ self.old.receiver }
     {
         let station = &mut self.stations[place];
-        if !station.notices(now, shown) {
+        if !station.learn(moment) {
             return false;
         }
         hand_out(station, &mut self.attempts, self.objects[place], subsystems)
@@ -159,8 +170,10 @@ fn hand_out(
     requires place { (d : Delivery) (p : ℕ) → delivery_told (noticed_by station.old) ≡ Some d → object ≡ Some p → p < length subsystems.old.items }
     requires space { (d : Delivery) (p : ℕ) (b : _) → delivery_told (noticed_by station.old) ≡ Some d → object ≡ Some p →
         slice_get subsystems.old.items p ≡ Some b → 0 < spare b }
-    ensures stands { (plan : StationData) (starts : Bool) (past : List Pair) → StationStands LAG plan starts [] [] station.old past →
-        StationStands LAG plan starts [] [] station.new past }
+    ensures stands { (plan : StationData) (starts : Bool) (past : List Pair) → StationKeeps LAG plan starts [] [] station.old past →
+        StationKeeps LAG plan starts [] [] station.new past }
+    ensures in_step { (plan : StationData) (starts : Bool) (bus : Cutters) (past : List Pair) → InStep LAG plan starts [] [] station.old bus past →
+        InStep LAG plan starts [] [] station.new bus past }
     ensures attempts { attempts.new.items ≡ attempts.old.items ++ attempts_told (noticed_by station.old) }
     ensures len { vec_len attempts.new ≤ vec_len attempts.old + 1 }
     ensures capacity { vec_capacity attempts.new ≡ vec_capacity attempts.old }
@@ -217,7 +230,7 @@ fn are_done(stations: &[Station]) -> bool
 
 // Whether a station is idle and isn't taking control.
 fn is_done(station: &Station) -> bool
-    ensures { (plan : PlanData) (s : StationData) (past : List Pair) → StationStands LAG s (starts plan s) [] [] station.now past →
+    ensures { (plan : PlanData) (s : StationData) (past : List Pair) → StationKeeps LAG s (starts plan s) [] [] station.now past →
         result ≡ is_done LAG plan [] [] [] past s }
 {
     station.is_idle() && !is_taking(station.role())

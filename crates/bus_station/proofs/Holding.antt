@@ -13,11 +13,11 @@ use Rattle.bus_model.specs.Terminal.{standing, order_now}
 use Rattle.bus_model.specs.Course.{Course, course}
 use Rattle.bus_model.specs.Control.{OutsideTake, StationSoFar, hold, serve, hear_more, moment_of, unheard, yielded_in, is_yielded, taking_from}
 use Rattle.bus_terminal.specs.Stands.{channel_of}
-use Rattle.bus_terminal.specs.TerminalStands.{TerminalStands}
-use Rattle.bus_controller.specs.ControllerStands.{ControllerStands}
+use Rattle.bus_terminal.specs.TerminalStands.{TerminalKeeps}
+use Rattle.bus_controller.specs.ControllerStands.{ControllerKeeps}
 use Rattle.bus_station.specs.Roles.{tick_of, still_taking}
 use Rattle.bus_station.specs.Told.{ended_in, delivery_of, heard_newest, delivered_newest}
-use Rattle.bus_station.specs.StationStands.{taking_of, Stands, StationStands, AfterTick}
+use Rattle.bus_station.specs.StationStands.{taking_of, Stands, StationKeeps, AfterTick}
 use Rattle.bus_station.specs.declared.station.Station.{Station}
 use Rattle.bus_station.specs.declared.event.StationEvent.TheVariants as events
 use Rattle.bus_station.proofs.Courses.{ended-before, is-calm, has-ended}
@@ -77,7 +77,7 @@ ended-taking n d none false off = rw off refl
 
 module _ (k : ℕ) (station : StationData) (starts : Bool) (loads : List TimedLoad) (outside : List OutsideTake) where
   -- a station that held control, after a tick in which its terminal heard this
-  so_far-held : (x : Pair) (past : List Pair) (y : Bool) → (before k station starts loads outside past).holds ≡ true →
+  pub so_far-held : (x : Pair) (past : List Pair) (y : Bool) → (before k station starts loads outside past).holds ≡ true →
       yielded_in (length past) (course k station starts (sofar k station starts loads outside past).takes (x ∷ past)).ended ≡ y →
       sofar k station starts loads outside (x ∷ past)
       ≡ record (sofar k station starts loads outside past) {
@@ -108,13 +108,13 @@ module _ (k : ℕ) (station : StationData) (starts : Bool) (loads : List TimedLo
       (sofar k station starts loads outside past) →
       (before k station starts loads outside past).holds ≡ true →
       yielded_in (length past) (course k station starts (sofar k station starts loads outside past).takes (x ∷ past)).ended ≡ y →
-      ControllerStands k station starts (sofar k station starts loads outside past).takes new.controller (x ∷ past) →
-      TerminalStands k station.terminal loads new.terminal (hear_more (sofar k station starts loads outside past).hearing
+      ControllerKeeps k station starts (sofar k station starts loads outside past).takes new.controller (x ∷ past) →
+      TerminalKeeps k station.terminal loads new.terminal (hear_more (sofar k station starts loads outside past).hearing
       (if y then moment_of x (course k station starts (sofar k station starts loads outside past).takes (x ∷ past)) else unheard)) →
       new.address ≡ old.address →
       new.taking ≡ tick_of (taking_of (suc (length past)) (course k station starts (sofar k station starts loads outside past).takes (x ∷ past))) →
-      StationStands k station starts loads outside new (x ∷ past)
-  unfolding StationStands
+      StationKeeps k station starts loads outside new (x ∷ past)
+  unfolding StationKeeps
   held-stands old new x past y st on yields controller terminal address first_is =
       subst (λ (s : StationSoFar). Stands k station starts loads outside new (x ∷ past) s) (sym (so_far-held x past y on yields)) record {
         address = address ∙ st.address;
@@ -125,12 +125,45 @@ module _ (k : ℕ) (station : StationData) (starts : Bool) (loads : List TimedLo
         taken = taken-more station.terminal.address (length past) outside st.taken;
       }
 
+  -- control is held on where no attempt ended, and then no tick is heard
+  pub rested-next : (x : Pair) (past : List Pair) → (before k station starts loads outside past).holds ≡ true →
+      (course k station starts (sofar k station starts loads outside past).takes (x ∷ past)).ended ≡ (before k station starts loads outside past).ended →
+      ((sofar k station starts loads outside (x ∷ past)).hearing.ticks ≡ unheard ∷ (sofar k station starts loads outside past).hearing.ticks)
+      × ((before k station starts loads outside (x ∷ past)).holds ≡ true)
+  rested-next x past on same =
+      let n : ℕ = length past in
+      let s : StationSoFar = sofar k station starts loads outside past in
+      let c : Course = before k station starts loads outside past in
+      let d : Course = course k station starts s.takes (x ∷ past) in
+      let kept = keeps k station starts loads outside past in
+      let calm = is-calm k station starts s.takes x past kept.later same in
+      let quiet : yielded_in n d.ended ≡ false = ap (yielded_in n) same ∙ none-yielded n c.ended (ended-before k station starts s.takes past) in
+      let held = so_far-held x past false on quiet in (
+        ap (λ (t : StationSoFar). t.hearing.ticks) held,
+        ap (λ (t : StationSoFar). (course k station starts t.takes (x ∷ past)).holds) held ∙ calm.holds ∙ on,
+      )
+
+  -- where one ended its tick is heard if control was yielded in it
+  pub closed-next : (x : Pair) (past : List Pair) (a : Attempt) → (before k station starts loads outside past).holds ≡ true →
+      (course k station starts (sofar k station starts loads outside past).takes (x ∷ past)).ended ≡ a ∷ (before k station starts loads outside past).ended →
+      (sofar k station starts loads outside (x ∷ past)).hearing.ticks
+      ≡ (if is_yielded a.outcome then moment_of x (course k station starts (sofar k station starts loads outside past).takes (x ∷ past)) else unheard)
+      ∷ (sofar k station starts loads outside past).hearing.ticks
+  closed-next x past a on is =
+      let n : ℕ = length past in
+      let s : StationSoFar = sofar k station starts loads outside past in
+      let c : Course = before k station starts loads outside past in
+      let kept = keeps k station starts loads outside past in
+      let ending = has-ended k station starts s.takes x past kept.later a is in
+      ap (λ (t : StationSoFar). t.hearing.ticks)
+      (so_far-held x past (is_yielded a.outcome) on (ap (yielded_in n) is ∙ one-yielded n a c.ended ending.at))
+
   -- no attempt ended
   pub rested : (old new : Station) (x : Pair) (past : List Pair) → Stands k station starts loads outside old past (sofar k station starts loads outside past) →
       (before k station starts loads outside past).holds ≡ true →
       (course k station starts (sofar k station starts loads outside past).takes (x ∷ past)).ended ≡ (before k station starts loads outside past).ended →
-      ControllerStands k station starts (sofar k station starts loads outside past).takes new.controller (x ∷ past) →
-      TerminalStands k station.terminal loads new.terminal (hear_more (sofar k station starts loads outside past).hearing unheard) →
+      ControllerKeeps k station starts (sofar k station starts loads outside past).takes new.controller (x ∷ past) →
+      TerminalKeeps k station.terminal loads new.terminal (hear_more (sofar k station starts loads outside past).hearing unheard) →
       new.address ≡ old.address → new.taking ≡ still_taking old.taking (length past) →
       AfterTick k station starts loads outside new events.Nothing x past
   rested old new x past st on same controller terminal address first_is =
@@ -158,8 +191,8 @@ module _ (k : ℕ) (station : StationData) (starts : Bool) (loads : List TimedLo
       (sofar k station starts loads outside past) →
       (before k station starts loads outside past).holds ≡ true →
       (course k station starts (sofar k station starts loads outside past).takes (x ∷ past)).ended ≡ a ∷ (before k station starts loads outside past).ended →
-      ControllerStands k station starts (sofar k station starts loads outside past).takes new.controller (x ∷ past) →
-      TerminalStands k station.terminal loads new.terminal (hear_more (sofar k station starts loads outside past).hearing
+      ControllerKeeps k station starts (sofar k station starts loads outside past).takes new.controller (x ∷ past) →
+      TerminalKeeps k station.terminal loads new.terminal (hear_more (sofar k station starts loads outside past).hearing
       (if is_yielded a.outcome then moment_of x (course k station starts (sofar k station starts loads outside past).takes (x ∷ past)) else unheard)) →
       new.address ≡ old.address → new.taking ≡ None →
       AfterTick k station starts loads outside new (events.Ended (record a { station = new.address })) x past

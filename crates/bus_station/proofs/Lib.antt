@@ -14,3 +14,6 @@ pub mod LoadsMade
 pub mod Loading
 pub mod Loaded
 pub mod Noticing
+pub mod Listening
+pub mod Closed
+pub mod Own

@@ -6,12 +6,12 @@ use Rattle.bus_model.specs.Memory.{Memory, TimedLoad, with_loads, load_block}
 use Rattle.bus_model.specs.Hearing.{Moment, Hearing}
 use Rattle.bus_model.specs.Course.{Take, course}
 use Rattle.bus_model.specs.Control.{OutsideTake, StationSoFar}
-use Rattle.bus_terminal.specs.TerminalStands.{TerminalStands}
+use Rattle.bus_terminal.specs.TerminalStands.{TerminalKeeps}
 use Rattle.bus_terminal.specs.declared.terminal.Terminal.{Terminal}
-use Rattle.bus_controller.specs.ControllerStands.{ControllerStands}
+use Rattle.bus_controller.specs.ControllerStands.{ControllerKeeps}
 use Rattle.bus_controller.specs.declared.controller.Controller.{Controller}
 use Rattle.bus_station.specs.Roles.{tick_of}
-use Rattle.bus_station.specs.StationStands.{Stands, StationStands, taking_of}
+use Rattle.bus_station.specs.StationStands.{Stands, StationKeeps, taking_of}
 use Rattle.bus_station.specs.declared.station.Station.{Station}
 use Rattle.bus_station.proofs.SoFar.{keeps}
 use Rattle.bus_station.proofs.Serving.{sofar}
@@ -21,14 +21,14 @@ use Rattle.bus_station.proofs.Loading.{Loads, IsLoaded, loaded-ticks, other-memo
 -- the terminal of a station that is loaded stands for what it heard
 terminal-loaded : (k : ℕ) (station : StationData) (loads : List TimedLoad) (sub n : ℕ) (words : List ℕ) (old new : Terminal) (s loaded : StationSoFar) →
     IsLoaded n sub words s loaded → length s.hearing.ticks ≡ suc n → Loads k station.terminal loads sub words old new →
-    TerminalStands k station.terminal loads old s.hearing →
-    TerminalStands k station.terminal (with-load loads record { tick = n; address = station.terminal.address; sub = sub; words = words }) new loaded.hearing
+    TerminalKeeps k station.terminal loads old s.hearing →
+    TerminalKeeps k station.terminal (with-load loads record { tick = n; address = station.terminal.address; sub = sub; words = words }) new loaded.hearing
 terminal-loaded k station loads sub n words old new s loaded is long loads_it st =
     let load : TimedLoad = record { tick = n; address = station.terminal.address; sub = sub; words = words } in
-    let heard : TerminalStands k station.terminal (with-load loads load) new s.hearing =
+    let heard : TerminalKeeps k station.terminal (with-load loads load) new s.hearing =
     loaded-ticks k station.terminal loads sub words old new n s.hearing.memory s.hearing.ticks loads_it long st in
     elim is.hearing [
-      | inl same ↦ subst (λ (h : Hearing). TerminalStands k station.terminal (with-load loads load) new h) (sym same) heard
+      | inl same ↦ subst (λ (h : Hearing). TerminalKeeps k station.terminal (with-load loads load) new h) (sym same) heard
       | inr (rests, now) ↦ (
           let memory : Memory = s.hearing.memory in
           let same : with_loads station.terminal.address (suc n) (with-load loads load)
@@ -36,9 +36,9 @@ terminal-loaded k station loads sub n words old new s loaded is long loads_it st
           made-load station.terminal.address (suc n) loads load (load_block memory sub words) refl (omega arith)
           ∙ swallowed station.terminal.address (suc n) loads sub words memory
           ∙ sym (made-load station.terminal.address (suc n) loads load memory refl (omega arith)) in
-          subst (λ (h : Hearing). TerminalStands k station.terminal (with-load loads load) new h) (sym now)
+          subst (λ (h : Hearing). TerminalKeeps k station.terminal (with-load loads load) new h) (sym now)
           (other-memory k station.terminal (with-load loads load) new (suc n) memory (load_block memory sub words) same
-          (subst (λ (ticks : List Moment). TerminalStands k station.terminal (with-load loads load) new
+          (subst (λ (ticks : List Moment). TerminalKeeps k station.terminal (with-load loads load) new
           (record { memory = memory; ticks = ticks })) rests heard)))
     ]
 
@@ -48,9 +48,9 @@ pub loaded-stands : (k : ℕ) (station : StationData) (starts : Bool) (loads : L
     Stands k station starts loads outside old (x ∷ past) (sofar k station starts loads outside (x ∷ past)) → new.address ≡ old.address →
     new.taking ≡ old.taking → new.controller ≡ old.controller →
     Loads k station.terminal loads sub words old.terminal new.terminal →
-    StationStands k station starts (with-load loads record { tick = length past; address = station.terminal.address; sub = sub; words = words }) outside
+    StationKeeps k station starts (with-load loads record { tick = length past; address = station.terminal.address; sub = sub; words = words }) outside
     new (x ∷ past)
-unfolding StationStands
+unfolding StationKeeps
 loaded-stands k station starts loads outside old new x past sub words st address taking controller loads_it =
     let load : TimedLoad = record { tick = length past; address = station.terminal.address; sub = sub; words = words } in
     let is : IsLoaded (length past) sub words (sofar k station starts loads outside (x ∷ past)) (sofar k station starts (with-load loads load) outside
@@ -58,8 +58,8 @@ loaded-stands k station starts loads outside old new x past sub words st address
     now-load k station starts loads outside load x past refl refl in
     record {
       address = address ∙ st.address;
-      controller = subst (λ (takes : List Take). ControllerStands k station starts takes new.controller (x ∷ past)) (sym is.takes)
-          (subst (λ (value : Controller). ControllerStands k station starts (sofar k station starts loads outside (x ∷ past)).takes value (x ∷ past))
+      controller = subst (λ (takes : List Take). ControllerKeeps k station starts takes new.controller (x ∷ past)) (sym is.takes)
+          (subst (λ (value : Controller). ControllerKeeps k station starts (sofar k station starts loads outside (x ∷ past)).takes value (x ∷ past))
           (sym controller) st.controller);
       terminal = terminal-loaded k station loads sub (length past) words old.terminal new.terminal _ _ is
           (keeps k station starts loads outside (x ∷ past)).long loads_it st.terminal;
@@ -68,3 +68,19 @@ loaded-stands k station starts loads outside old new x past sub words st address
       made = made-append station.terminal.address (suc (length past)) loads load st.made (omega arith);
       taken = st.taken;
     }
+
+-- what its terminal heard stays
+pub loaded-hears : (k : ℕ) (station : StationData) (starts : Bool) (loads : List TimedLoad) (outside : List OutsideTake) (x : Pair) (past : List Pair)
+    (sub : ℕ) (words : List ℕ) →
+    (sofar k station starts (with-load loads record { tick = length past; address = station.terminal.address; sub = sub; words = words }) outside
+    (x ∷ past)).hearing.ticks
+    ≡ (sofar k station starts loads outside (x ∷ past)).hearing.ticks
+loaded-hears k station starts loads outside x past sub words =
+    let load : TimedLoad = record { tick = length past; address = station.terminal.address; sub = sub; words = words } in
+    let is : IsLoaded (length past) sub words (sofar k station starts loads outside (x ∷ past)) (sofar k station starts (with-load loads load) outside
+    (x ∷ past)) =
+    now-load k station starts loads outside load x past refl refl in
+    elim is.hearing [
+      | inl same ↦ ap (λ (h : Hearing). h.ticks) same
+      | inr (rests, now) ↦ ap (λ (h : Hearing). h.ticks) now ∙ sym rests
+    ]

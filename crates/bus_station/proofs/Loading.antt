@@ -10,7 +10,7 @@ use Rattle.bus_model.specs.Course.{Take, Course, course}
 use Rattle.bus_model.specs.Control.{OutsideTake, StationSoFar, so_far, so_far_after, hold, taken_over, takes_in, outside_takes, accepted_take, hear_more, moment_of, unheard_ticks}
 use Rattle.bus_terminal.specs.Quiet.{quiet_moments}
 use Rattle.bus_terminal.specs.Stands.{CommonStands, StateStands}
-use Rattle.bus_terminal.specs.TerminalStands.{TerminalStands}
+use Rattle.bus_terminal.specs.TerminalStands.{TerminalKeeps}
 use Rattle.bus_terminal.specs.declared.common.Common.{Common}
 use Rattle.bus_terminal.specs.declared.terminal.Terminal.{Terminal}
 use Rattle.bus_terminal.specs.declared.state.TerminalState.{TerminalState}
@@ -53,9 +53,9 @@ state-memory k t loads (states.Answering state) past m other same st = absurd (l
 
 -- a terminal
 pub other-memory : (k : ℕ) (t : TerminalData) (loads : List TimedLoad) (terminal : Terminal) (n : ℕ) (m other : Memory) →
-    with_loads t.address n loads other ≡ with_loads t.address n loads m → TerminalStands k t loads terminal (record { memory = m; ticks = quiet_moments n }) →
-    TerminalStands k t loads terminal (record { memory = other; ticks = quiet_moments n })
-unfolding TerminalStands
+    with_loads t.address n loads other ≡ with_loads t.address n loads m → TerminalKeeps k t loads terminal (record { memory = m; ticks = quiet_moments n }) →
+    TerminalKeeps k t loads terminal (record { memory = other; ticks = quiet_moments n })
+unfolding TerminalKeeps
 other-memory k t loads terminal n m other same st =
     subst (λ (s : Standing). StateStands k t loads terminal.state (quiet_moments n) s) (sym (quiet-stands k t loads other n))
     (state-memory k t loads terminal.state (quiet_moments n) m other
@@ -67,19 +67,19 @@ other-memory k t loads terminal n m other same st =
 -- what a load in the last tick heard does to a terminal
 abbrev pub Loads : (k : ℕ) (t : TerminalData) (loads : List TimedLoad) (sub : ℕ) (words : List ℕ) (old new : Terminal) → Type 0
 Loads k t loads sub words old new = (memory : Memory) (now : Moment) (past : List Moment) →
-    TerminalStands k t loads old (record { memory = memory; ticks = now ∷ past }) →
-    TerminalStands k t (loads ++ record { tick = length past; address = t.address; sub = sub; words = words } ∷ []) new
+    TerminalKeeps k t loads old (record { memory = memory; ticks = now ∷ past }) →
+    TerminalKeeps k t (loads ++ record { tick = length past; address = t.address; sub = sub; words = words } ∷ []) new
     (record { memory = memory; ticks = now ∷ past })
 
 -- whatever it heard, if it heard a tick
 pub loaded-ticks : (k : ℕ) (t : TerminalData) (loads : List TimedLoad) (sub : ℕ) (words : List ℕ) (old new : Terminal) (n : ℕ) (memory : Memory)
     (ticks : List Moment) →
-    Loads k t loads sub words old new → length ticks ≡ suc n → TerminalStands k t loads old (record { memory = memory; ticks = ticks }) →
-    TerminalStands k t (loads ++ record { tick = n; address = t.address; sub = sub; words = words } ∷ []) new (record { memory = memory; ticks = ticks })
+    Loads k t loads sub words old new → length ticks ≡ suc n → TerminalKeeps k t loads old (record { memory = memory; ticks = ticks }) →
+    TerminalKeeps k t (loads ++ record { tick = n; address = t.address; sub = sub; words = words } ∷ []) new (record { memory = memory; ticks = ticks })
 loaded-ticks k t loads sub words old new n memory [] loaded long st = absurd (omega (arith, long))
 loaded-ticks k t loads sub words old new n memory (now ∷ past) loaded long st =
     let here : length past ≡ n = omega (arith, long) in
-    subst (λ (i : ℕ). TerminalStands k t (loads ++ record { tick = i; address = t.address; sub = sub; words = words } ∷ []) new
+    subst (λ (i : ℕ). TerminalKeeps k t (loads ++ record { tick = i; address = t.address; sub = sub; words = words } ∷ []) new
     (record { memory = memory; ticks = now ∷ past })) here
     (loaded memory now past st)
 

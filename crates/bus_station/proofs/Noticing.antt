@@ -6,7 +6,7 @@ use Rattle.bus_model.specs.Memory.{TimedLoad}
 use Rattle.bus_model.specs.Control.{OutsideTake}
 use Rattle.bus_station.specs.Told.{attempts_told, delivery_told}
 use Rattle.bus_station.specs.Noticed.{noticed, is_event}
-use Rattle.bus_station.specs.StationStands.{StationStands, AfterTick, AfterNotice}
+use Rattle.bus_station.specs.StationStands.{StationKeeps, AfterTick, AfterNotice}
 use Rattle.bus_station.specs.declared.event.StationEvent.{StationEvent}
 use Rattle.bus_station.specs.declared.event.StationEvent.TheVariants as events
 use Rattle.bus_station.specs.declared.station.Station.{Station}
@@ -19,11 +19,11 @@ noted false event before some none told = (let is : event ≡ events.Nothing = n
 
 -- a station stands whatever it has to tell
 pub forgotten : (k : ℕ) (station : StationData) (starts : Bool) (loads : List TimedLoad) (outside : List OutsideTake) (old new : Station) (past : List Pair) →
-    new ≡ record old { event = events.Nothing } → StationStands k station starts loads outside old past →
-    StationStands k station starts loads outside new past
-unfolding StationStands
+    new ≡ record old { event = events.Nothing } → StationKeeps k station starts loads outside old past →
+    StationKeeps k station starts loads outside new past
+unfolding StationKeeps
 forgotten k station starts loads outside old new past is st =
-    subst (λ (value : Station). StationStands k station starts loads outside value past) (sym is) record {
+    subst (λ (value : Station). StationKeeps k station starts loads outside value past) (sym is) record {
       address = st.address;
       controller = st.controller;
       terminal = st.terminal;

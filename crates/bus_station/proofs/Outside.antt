@@ -10,11 +10,12 @@ use Rattle.bus_model.specs.Terminal.{accepted_now, memory_after}
 use Rattle.bus_model.specs.Course.{Take, Course, course, with_takes, take_control, run_on, runs_next}
 use Rattle.bus_model.specs.Control.{OutsideTake, StationSoFar, so_far, so_far_after, hold, taken_over, takes_in, outside_takes, is_outside, accepted_take, hear_more, moment_of}
 use Rattle.bus_terminal.specs.Quiet.{quiet_moments}
-use Rattle.bus_terminal.specs.TerminalStands.{TerminalStands}
+use Rattle.bus_terminal.specs.TerminalStands.{TerminalKeeps}
 use Rattle.bus_terminal.proofs.Standing.{by-test}
-use Rattle.bus_controller.specs.ControllerStands.{ControllerStands}
+use Rattle.bus_controller.specs.ControllerStands.{ControllerKeeps}
 use Rattle.bus_station.specs.StationStands.{AreTaken, Stands}
 use Rattle.bus_station.specs.declared.station.Station.{Station}
+use Rattle.bus_station.proofs.Quiet.{unheard-quiet}
 use Rattle.bus_station.proofs.Serving.{sofar, before, so_far-served, took, took-stands}
 
 -- ---- takes of a tick give control in it
@@ -176,17 +177,45 @@ module _ (k : ℕ) (station : StationData) (starts : Bool) (loads : List TimedLo
       ≡ taken_over k station starts loads outside (x ∷ past) t (hear_more t.hearing (moment_of x (course k station starts t.takes past))) takes) is
       (so_far-served k station starts loads outside x past takes)
 
+  -- a station that served, with this take
+  pub itself-now : (outside : List OutsideTake) (x : Pair) (past : List Pair) (first : ℕ) →
+      (before k station starts loads outside past).holds ≡ false → (before k station starts loads outside (x ∷ past)).holds ≡ false →
+      sofar k station starts loads (with-take station outside (length past) first) (x ∷ past)
+      ≡ took k station starts loads (with-take station outside (length past) first) x past
+      (hear_more (sofar k station starts loads outside past).hearing (moment_of x (before k station starts loads outside past))) first
+      (sofar k station starts loads outside past)
+  itself-now outside x past first off after =
+      let n : ℕ = length past in
+      let s : StationSoFar = sofar k station starts loads outside past in
+      let hearing : Hearing = hear_more s.hearing (moment_of x (before k station starts loads outside past)) in
+      let more : List OutsideTake = with-take station outside n first in
+      let take : Take = record { heard = suc n; first = first } in
+      let none : takes_in k station starts loads outside n hearing ≡ [] = none-taken outside x past off after in
+      let made : takes_in k station starts loads more n hearing ≡ take ∷ [] =
+      ap (λ (takes : List Take). accepted_take n (accepted_now k station.terminal loads hearing) ++ takes) (this-outside more n first outside)
+      ∙ sym (append_assoc (accepted_take n (accepted_now k station.terminal loads hearing)) (outside_takes k station starts loads outside n outside)
+      (take ∷ []))
+      ∙ ap (λ (takes : List Take). takes ++ take ∷ []) none in
+      served-by more x past (take ∷ []) s (before-outside outside n first past (omega arith)) off made
+
+  -- its terminal heard quiet ticks then
+  pub itself-rests : (outside : List OutsideTake) (x : Pair) (past : List Pair) (first : ℕ) →
+      (before k station starts loads outside past).holds ≡ false → (before k station starts loads outside (x ∷ past)).holds ≡ false →
+      (sofar k station starts loads (with-take station outside (length past) first) (x ∷ past)).hearing.ticks ≡ quiet_moments (suc (length past))
+  itself-rests outside x past first off after =
+      ap (λ (s : StationSoFar). s.hearing.ticks) (itself-now outside x past first off after) ∙ unheard-quiet (x ∷ past)
+
   -- it stands for the takes with this one
   pub took-itself : (old new : Station) (outside : List OutsideTake) (x : Pair) (past : List Pair) (first : ℕ) →
       Stands k station starts loads outside old (x ∷ past) (sofar k station starts loads outside (x ∷ past)) →
       (before k station starts loads outside past).holds ≡ false → (before k station starts loads outside (x ∷ past)).holds ≡ false →
       suc (length past) ≤ first → new.address ≡ old.address → new.taking ≡ Some record { 0 = first } →
-      ControllerStands k station starts ((sofar k station starts loads outside (x ∷ past)).takes ++ record {
+      ControllerKeeps k station starts ((sofar k station starts loads outside (x ∷ past)).takes ++ record {
         heard = suc
             (length past);
         first = first;
       } ∷ []) new.controller (x ∷ past) →
-      TerminalStands k station.terminal loads new.terminal
+      TerminalKeeps k station.terminal loads new.terminal
       (record {
         memory = memory_after k station.terminal loads (sofar k station starts loads outside (x ∷ past)).hearing;
         ticks = quiet_moments
@@ -203,16 +232,11 @@ module _ (k : ℕ) (station : StationData) (starts : Bool) (loads : List TimedLo
       let none : takes_in k station starts loads outside n hearing ≡ [] = none-taken outside x past off after in
       let same : sofar k station starts loads outside
       (x ∷ past) ≡ record s { hearing = hearing } = so_far-served k station starts loads outside x past [] off none in
-      let made : takes_in k station starts loads more n hearing ≡ take ∷ [] =
-      ap (λ (takes : List Take). accepted_take n (accepted_now k station.terminal loads hearing) ++ takes) (this-outside more n first outside)
-      ∙ sym (append_assoc (accepted_take n (accepted_now k station.terminal loads hearing)) (outside_takes k station starts loads outside n outside)
-      (take ∷ []))
-      ∙ ap (λ (takes : List Take). takes ++ take ∷ []) none in
       let now : sofar k station starts loads more (x ∷ past) ≡ took k station starts loads more x past hearing first s =
-      served-by more x past (take ∷ []) s (before-outside outside n first past (omega arith)) off made in
+      itself-now outside x past first off after in
       subst (λ (t : StationSoFar). Stands k station starts loads more new (x ∷ past) t) (sym now)
       (took-stands k station starts loads more new x past s hearing first (address ∙ st.address) taking early
-      (subst (λ (t : StationSoFar). ControllerStands k station starts (t.takes ++ take ∷ []) new.controller (x ∷ past)) same controller)
-      (subst (λ (t : StationSoFar). TerminalStands k station.terminal loads new.terminal
+      (subst (λ (t : StationSoFar). ControllerKeeps k station starts (t.takes ++ take ∷ []) new.controller (x ∷ past)) same controller)
+      (subst (λ (t : StationSoFar). TerminalKeeps k station.terminal loads new.terminal
       (record { memory = memory_after k station.terminal loads t.hearing; ticks = quiet_moments (suc n) })) same terminal)
       st.made (taken-append n (suc n) first outside (omega arith) st.taken))

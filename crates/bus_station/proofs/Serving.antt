@@ -13,15 +13,15 @@ use Rattle.bus_model.specs.Course.{Take, Course, course, take_control}
 use Rattle.bus_model.specs.Control.{OutsideTake, StationSoFar, so_far, hold, serve, taken_over, takes_in, outside_takes, is_outside, accepted_take, hear_more, moment_of, unheard_ticks}
 use Rattle.bus_terminal.specs.Quiet.{quiet_moments}
 use Rattle.bus_terminal.specs.Stands.{AreMade, channel_of}
-use Rattle.bus_terminal.specs.TerminalStands.{TerminalStands}
+use Rattle.bus_terminal.specs.TerminalStands.{TerminalKeeps}
 use Rattle.bus_terminal.specs.declared.terminal.Terminal.{Terminal}
 use Rattle.bus_terminal.specs.declared.state.TerminalEvent.{TerminalEvent}
-use Rattle.bus_controller.specs.ControllerStands.{ControllerStands}
+use Rattle.bus_controller.specs.ControllerStands.{ControllerKeeps}
 use Rattle.bus_controller.proofs.Wholes.{course-taken}
 use Rattle.bus_station.specs.Roles.{tick_of}
 use Rattle.bus_station.specs.Told.{attempts_told, delivery_told, delivery_of, ended_in, heard_newest, delivery_in, delivered_newest}
 use Rattle.bus_station.specs.Hears.{HeardBy}
-use Rattle.bus_station.specs.StationStands.{AreTaken, taking_of, Stands, StationStands, AfterTick}
+use Rattle.bus_station.specs.StationStands.{AreTaken, taking_of, Stands, StationKeeps, AfterTick}
 use Rattle.bus_station.specs.declared.station.Station.{Station}
 use Rattle.bus_station.specs.declared.event.StationEvent.{StationEvent}
 use Rattle.bus_station.proofs.Courses.{serves-more, ended-before}
@@ -96,11 +96,11 @@ module _ (k : ℕ) (station : StationData) (starts : Bool) (loads : List TimedLo
   pub served : (old new : Station) (event : TerminalEvent) (told : StationEvent) (x : Pair) (past : List Pair) →
       Stands k station starts loads outside old past (sofar past) → (before past).holds ≡ false →
       accepted_now k station.terminal loads (hear_more (sofar past).hearing (moment_of x (before past))) ≡ None →
-      ControllerStands k station starts (sofar past).takes new.controller (x ∷ past) →
+      ControllerKeeps k station starts (sofar past).takes new.controller (x ∷ past) →
       HeardBy k station.terminal loads new.terminal event (length past) (sofar past).hearing (moment_of x (before past)) →
       new.address ≡ old.address → new.taking ≡ old.taking → attempts_told told ≡ [] → delivery_told told ≡ delivery_heard event →
       AfterTick k station starts loads outside new told x past
-  unfolding StationStands
+  unfolding StationKeeps
   served old new event told x past st off none controller heard address taking no_attempt delivery =
       let kept = keeps k station starts loads outside past in
       let n : ℕ = length past in
@@ -124,6 +124,19 @@ module _ (k : ℕ) (station : StationData) (starts : Bool) (loads : List TimedLo
         took = delivery ∙ served-delivered event new.terminal x past off heard;
       }
 
+  -- so it goes on with what it heard, without control
+  pub served-next : (x : Pair) (past : List Pair) → AreTaken station.terminal.address (length past) outside → (before past).holds ≡ false →
+      accepted_now k station.terminal loads (hear_more (sofar past).hearing (moment_of x (before past))) ≡ None →
+      ((sofar (x ∷ past)).hearing ≡ hear_more (sofar past).hearing (moment_of x (before past))) × ((before (x ∷ past)).holds ≡ false)
+  served-next x past taken off none =
+      let kept = keeps k station starts loads outside past in
+      let c : Course = before past in
+      let same = so_far-served x past [] off (takes-accepted (length past) (hear_more (sofar past).hearing (moment_of x c)) None taken none) in (
+        ap (λ (s : StationSoFar). s.hearing) same,
+        ap (λ (s : StationSoFar). (course k station starts s.takes (x ∷ past)).holds) same
+            ∙ ap (λ (d : Course). d.holds) (serves-more k station starts (sofar past).takes x past kept.later off) ∙ off,
+      )
+
   -- ---- control is taken
 
   -- the first command after it was taken, when this tick was heard
@@ -136,8 +149,8 @@ module _ (k : ℕ) (station : StationData) (starts : Bool) (loads : List TimedLo
   -- it stands for what was taken over
   pub took-stands : (new : Station) (x : Pair) (past : List Pair) (s : StationSoFar) (hearing : Hearing) (first : ℕ) → new.address ≡ station.terminal.address →
       new.taking ≡ Some record { 0 = first } → suc (length past) ≤ first →
-      ControllerStands k station starts (s.takes ++ record { heard = suc (length past); first = first } ∷ []) new.controller (x ∷ past) →
-      TerminalStands k station.terminal loads new.terminal (record {
+      ControllerKeeps k station starts (s.takes ++ record { heard = suc (length past); first = first } ∷ []) new.controller (x ∷ past) →
+      TerminalKeeps k station.terminal loads new.terminal (record {
         memory = memory_after k station.terminal loads hearing;
         ticks = quiet_moments
             (suc (length past));
@@ -147,7 +160,7 @@ module _ (k : ℕ) (station : StationData) (starts : Bool) (loads : List TimedLo
   took-stands new x past s hearing first address taking early controller terminal made taken = record {
     address = address;
     controller = controller;
-    terminal = subst (λ (ticks : List Moment). TerminalStands k station.terminal loads new.terminal
+    terminal = subst (λ (ticks : List Moment). TerminalKeeps k station.terminal loads new.terminal
         (record { memory = memory_after k station.terminal loads hearing; ticks = ticks }))
         (sym (unheard-quiet (x ∷ past))) terminal;
     taking = taking ∙ sym (ap (λ (c : Course). tick_of (taking_of (suc (length past)) c)) (course-taken k station starts s.takes first (x ∷ past))
@@ -161,9 +174,9 @@ module _ (k : ℕ) (station : StationData) (starts : Bool) (loads : List TimedLo
       Stands k station starts loads outside old past (sofar past) → (before past).holds ≡ false →
       accepted_now k station.terminal loads (hear_more (sofar past).hearing (moment_of x (before past))) ≡ Some end → first ≡ end + taking_over →
       suc (length past) ≤ first →
-      ControllerStands k station starts ((sofar past).takes ++ record { heard = suc (length past); first = first } ∷ []) new.controller (x ∷ past) →
+      ControllerKeeps k station starts ((sofar past).takes ++ record { heard = suc (length past); first = first } ∷ []) new.controller (x ∷ past) →
       HeardBy k station.terminal loads terminal event (length past) (sofar past).hearing (moment_of x (before past)) →
-      TerminalStands k station.terminal loads new.terminal
+      TerminalKeeps k station.terminal loads new.terminal
       (record {
         memory = memory_after k station.terminal loads (hear_more (sofar past).hearing (moment_of x (before past)));
         ticks = quiet_moments
@@ -171,7 +184,7 @@ module _ (k : ℕ) (station : StationData) (starts : Bool) (loads : List TimedLo
       }) →
       new.address ≡ old.address → new.taking ≡ Some record { 0 = first } → attempts_told told ≡ [] → delivery_told told ≡ delivery_heard event →
       AfterTick k station starts loads outside new told x past
-  unfolding StationStands
+  unfolding StationKeeps
   took-over old new event told x past terminal end first st off accepted at early controller heard woken address taking no_attempt delivery =
       let kept = keeps k station starts loads outside past in
       let n : ℕ = length past in
@@ -193,6 +206,22 @@ module _ (k : ℕ) (station : StationData) (starts : Bool) (loads : List TimedLo
             ∙ none-told station.terminal.address n c.ended (ended-before k station starts (sofar past).takes past));
         took = delivery ∙ served-delivered event terminal x past off heard;
       }
+
+  -- so it holds control, and its terminal heard quiet ticks
+  pub took-next : (x : Pair) (past : List Pair) (end first : ℕ) → AreTaken station.terminal.address (length past) outside → (before past).holds ≡ false →
+      accepted_now k station.terminal loads (hear_more (sofar past).hearing (moment_of x (before past))) ≡ Some end → first ≡ end + taking_over →
+      ((sofar (x ∷ past)).hearing.ticks ≡ quiet_moments (suc (length past))) × ((before (x ∷ past)).holds ≡ true)
+  took-next x past end first taken off accepted at =
+      let n : ℕ = length past in
+      let hearing : Hearing = hear_more (sofar past).hearing (moment_of x (before past)) in
+      let takes : List Take = record { heard = suc n; first = first } ∷ [] in
+      let made : takes_in k station starts loads outside n hearing ≡ takes =
+      takes-accepted n hearing (Some end) taken accepted ∙ ap (λ (f : ℕ). record { heard = suc n; first = f } ∷ []) (sym at) in
+      let same : sofar (x ∷ past) ≡ took x past hearing first (sofar past) = so_far-served x past takes off made in (
+        ap (λ (s : StationSoFar). s.hearing.ticks) same ∙ unheard-quiet (x ∷ past),
+        ap (λ (s : StationSoFar). (course k station starts s.takes (x ∷ past)).holds) same
+            ∙ ap (λ (d : Course). d.holds) (course-taken k station starts (sofar past).takes first (x ∷ past)),
+      )
 
   -- items are left where control is accepted
   pub accepted-left : (x : Pair) (past : List Pair) (end : ℕ) → (before past).holds ≡ false →

@@ -1,12 +1,6 @@
 -- What a station shows of itself.
-use Rattle.std.proofs.Common.{◌≡◌, ℕ, Bool, true, false, not, List, length, Option, Some, None, refl, sym, ap, ◌∙◌}
-use Rattle.bus_base.specs.declared.samples.Pair.{Pair}
+use Rattle.std.proofs.Common.{◌≡◌, ℕ, Bool, true, false, not, Option, Some, None, refl, ap}
 use Rattle.bus_base.specs.declared.samples.Tick.{Tick}
-use Rattle.bus_formats.specs.Plans.{StationData}
-use Rattle.bus_model.specs.Course.{Take}
-use Rattle.bus_controller.specs.Moments.{ReceiverStands}
-use Rattle.bus_controller.specs.ControllerStands.{ControllerStands}
-use Rattle.bus_controller.specs.declared.controller.Controller.{Controller}
 use Rattle.bus_station.specs.Roles.{tick_of, role_by}
 use Rattle.bus_station.specs.declared.role.Role.TheVariants.{Controlling, Taking}
 
@@ -19,12 +13,6 @@ serves b false is yielded = refl
 pub controls : (b h : Bool) → b ≡ not h → b ≡ false → h ≡ true
 controls b true is held = refl
 controls b false is held = cc
-
--- the pasts for which a controller stands are of one length
-pub same-length : (k : ℕ) (value : Controller) (a b : StationData) (on off : Bool) (takes others : List Take) (past other : List Pair) →
-    ControllerStands k a on takes value past → ControllerStands k b off others value other → length past ≡ length other
-unfolding ControllerStands ReceiverStands
-same-length k value a b on off takes others past other st st_other = sym st.receiver.next ∙ st_other.receiver.next
 
 -- it is taking control
 pub taking-role : (first : Tick) (o : Option ℕ) (holds : Bool) → Some first ≡ tick_of o → holds ≡ true → Taking first ≡ role_by holds o

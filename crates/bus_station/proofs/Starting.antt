@@ -4,10 +4,10 @@ use Rattle.bus_formats.specs.Plans.{StationData, TerminalData}
 use Rattle.bus_model.specs.Memory.{first_memory}
 use Rattle.bus_model.specs.Course.{course}
 use Rattle.bus_model.specs.Control.{so_far}
-use Rattle.bus_terminal.specs.TerminalStands.{TerminalStands}
+use Rattle.bus_terminal.specs.TerminalStands.{TerminalStands, TerminalKeeps}
 use Rattle.bus_controller.specs.ControllerStands.{ControllerStands}
 use Rattle.bus_station.specs.Roles.{tick_of}
-use Rattle.bus_station.specs.StationStands.{taking_of, StationStands}
+use Rattle.bus_station.specs.StationStands.{taking_of, StationStands, StationKeeps}
 use Rattle.bus_station.specs.declared.station.Station.{Station}
 
 -- it isn't taking control, whether it starts or not
@@ -22,12 +22,15 @@ pub begins : (k : ℕ) (plan : StationData) (starts : Bool) (new : Station) (ter
     ControllerStands k plan starts [] new.controller [] → TerminalStands k terminal [] new.terminal
     (record { memory = first_memory terminal; ticks = [] }) → new.taking ≡ None →
     StationStands k plan starts [] [] new []
-unfolding StationStands so_far
-begins k plan starts new terminal same address controller heard none = record {
-  address = address ∙ ap (λ (t : TerminalData). t.address) same;
-  controller = controller;
-  terminal = subst (λ (t : TerminalData). TerminalStands k t [] new.terminal (record { memory = first_memory t; ticks = [] })) same heard;
-  taking = none ∙ no-taking k plan starts;
-  made = tt;
-  taken = tt;
-}
+unfolding StationStands StationKeeps ControllerStands TerminalStands so_far
+begins k plan starts new terminal same address controller heard none = (
+  record {
+    address = address ∙ ap (λ (t : TerminalData). t.address) same;
+    controller = controller.1;
+    terminal = subst (λ (t : TerminalData). TerminalKeeps k t [] new.terminal (record { memory = first_memory t; ticks = [] })) same heard.0;
+    taking = none ∙ no-taking k plan starts;
+    made = tt;
+    taken = tt;
+  },
+  record { receiver = controller.0; cutters = heard.1 },
+)

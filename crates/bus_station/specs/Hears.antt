@@ -6,14 +6,14 @@ use Rattle.bus_model.specs.Hearing.{Moment, Hearing}
 use Rattle.bus_model.specs.Terminal.{standing, order_now, took_now, accepted_now}
 use Rattle.bus_model.specs.Control.{hear_more}
 use Rattle.bus_terminal.specs.Stands.{TakenIs, AcceptedIs, channel_of}
-use Rattle.bus_terminal.specs.TerminalStands.{TerminalStands}
+use Rattle.bus_terminal.specs.TerminalStands.{TerminalKeeps}
 use Rattle.bus_terminal.specs.declared.terminal.Terminal.{Terminal}
 use Rattle.bus_terminal.specs.declared.state.TerminalEvent.{TerminalEvent}
 
 -- it stands for one tick more, and told the block that it took, or that it accepted control
 pub record HeardBy (k : ℕ) (t : TerminalData) (loads : List TimedLoad) (terminal : Terminal) (event : TerminalEvent) (tick : ℕ) (hearing : Hearing)
     (now : Moment) : Type 0 where
-  pub stands : TerminalStands k t loads terminal (hear_more hearing now)
+  pub stands : TerminalKeeps k t loads terminal (hear_more hearing now)
   pub took : TakenIs event tick
       (channel_of (standing k t loads hearing.memory hearing.ticks)
       (order_now k t (now ∷ hearing.ticks) (standing k t loads hearing.memory hearing.ticks)))

@@ -5,3 +5,4 @@ pub mod StationStands
 pub mod Noticed
 pub mod Hears
 pub mod Heard
+pub mod Listening

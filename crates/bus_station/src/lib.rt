@@ -3,6 +3,7 @@
 #![tactic(auto)]
 
 mod event;
+mod hearing;
 pub mod laws;
 mod role;
 mod station;

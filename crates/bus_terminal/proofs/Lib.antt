@@ -24,4 +24,5 @@ pub mod TickLaws
 pub mod Quiet
 pub mod Shows
 pub mod Waking
+pub mod Resting
 pub mod Loading

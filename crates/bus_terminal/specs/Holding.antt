@@ -1,8 +1,11 @@
 -- For which hearings the parts of a terminal stand.
-use Rattle.std.specs.Prelude.{◌≡◌, ℕ, Bool, false, ◌&&◌, List, Option, Some, None}
+use Rattle.std.specs.Prelude.{◌≡◌, ℕ, Bool, false, ◌&&◌, List, ◌∷◌, Option, Some, None}
 use Rattle.bus_base.specs.Samples.{same_channel}
 use Rattle.bus_base.specs.declared.samples.Channel.{Channel}
 use Rattle.bus_base.specs.declared.samples.Channel.TheVariants.{A, B}
+use Rattle.bus_base.specs.declared.samples.Pair.{Pair}
+use Rattle.bus_receiver.specs.Cuts.{cuts_now}
+use Rattle.bus_receiver.specs.declared.cutters.Cuts.{Cuts}
 use Rattle.bus_formats.specs.Plans.{TerminalData}
 use Rattle.bus_ears.specs.Ears.{EarStands, IsHeard, heard_of}
 use Rattle.bus_ears.specs.declared.ear.TheConstants.{MOST_SLOTS}
@@ -12,6 +15,10 @@ use Rattle.bus_model.specs.Terminal.{begins}
 use Rattle.bus_terminal.specs.declared.common.BothHeard.{BothHeard}
 use Rattle.bus_terminal.specs.declared.common.Ears.{Ears}
 use Rattle.bus_terminal.specs.declared.common.Listened.{Listened}
+
+-- this became known of both channels with the newest tick, before which a terminal heard those
+abbrev pub AreCuts : ℕ → Cuts → Pair → List Moment → Type 0
+AreCuts k cuts heard past = cuts ≡ cuts_now k (heard.a ∷ heard_on A past) (heard.b ∷ heard_on B past)
 
 abbrev pub begins_on : Option Channel → Channel → Bool
 begins_on None c = false

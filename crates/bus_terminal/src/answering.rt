@@ -9,6 +9,7 @@ ghost use Rattle.bus_model.specs.Sending as sending;
 ghost use Rattle.bus_model.specs.Standing.{Standing};
 ghost use Rattle.bus_model.specs.Terminal.{accepted_on, drive_of};
 ghost use Rattle.bus_terminal.specs.Stands.{AnsweringStands, NextStands};
+ghost use Rattle.bus_terminal.specs.Holding.{AreCuts};
 ghost use Rattle.bus_terminal.specs.Hearing.{AnsweringHeard, AfterStep};
 ghost use Rattle.bus_terminal.specs.declared.answering.Answering.{Answering as AnsweringData};
 ghost use Rattle.bus_terminal.specs.Steps.{answering_on, begins_told, acceptance_told};
@@ -21,6 +22,7 @@ use crate::state::{Sends, Step, TerminalEvent, TerminalNext, TerminalState, act}
 use bus_base::{Channel, Drive, Pair, Part, Tick};
 use bus_ears::HeardBurst;
 use bus_line::sample_of;
+use bus_receiver::Cuts;
 use bus_words::Word;
 
 /// Its answer began `sent` ticks ago, or begins in the next tick: its own dead ticks passed (response time, MIL-STD-1553B 4.3.3.8), and since the
@@ -34,18 +36,18 @@ pub struct Answering {
 }
 
 impl Answering {
-    /// Hears what both channels show in the tick `now`, the number of the ticks heard before. `may_accept` says that the terminal's station has
+    /// Hears what both channels show in the tick `now`, the number of the ticks heard before, and what became known with it. `may_accept` says that the terminal's station has
     /// items left. Whatever history it stands for, the next state stands for it with this tick, and it tells the block that was taken whole in the
     /// tick, or that control was accepted.
-    pub fn hear(mut self, now: Tick, heard: Pair, may_accept: bool) -> TerminalNext
+    pub fn hear(mut self, now: Tick, heard: Pair, cuts: &Cuts, may_accept: bool) -> TerminalNext
         requires { (terminal : TerminalData) × (loads : List TimedLoad) × (past : List Moment) × (s : Standing)
-            × AnsweringStands LAG terminal loads self past s × (length past ≡ now.0) × (now.0 < 2 ^ 60) }
+            × AnsweringStands LAG terminal loads self past s × AreCuts LAG cuts.now heard past × (length past ≡ now.0) × (now.0 < 2 ^ 60) }
         ensures { (terminal : TerminalData) (loads : List TimedLoad) (past : List Moment) (s : Standing) →
-            AnsweringStands LAG terminal loads self past s → length past ≡ now.0 →
+            AnsweringStands LAG terminal loads self past s → AreCuts LAG cuts.now heard past → length past ≡ now.0 →
             NextStands LAG terminal loads result past (record { shown = heard; has_items = may_accept }) s
             (accepted_on LAG terminal loads (record { shown = heard; has_items = may_accept }) past s) }
     {
-        match self.listen(now, heard) {
+        match self.listen(now, heard, cuts) {
             Step::Stays => TerminalNext {
                 state: TerminalState::Answering(self),
                 event: TerminalEvent::Nothing,
@@ -54,18 +56,18 @@ impl Answering {
         }
     }
 
-    /// Hears what both channels show in the tick `now`, the number of the ticks heard before, and stays unless something is handled or it is left.
+    /// Hears what both channels show in the tick `now`, the number of the ticks heard before, and what became known with it, and stays unless something is handled or it is left.
     #[inline(always)]
-    pub(crate) fn listen(&mut self, now: Tick, heard: Pair) -> Step
+    pub(crate) fn listen(&mut self, now: Tick, heard: Pair, cuts: &Cuts) -> Step
         requires { (terminal : TerminalData) × (loads : List TimedLoad) × (past : List Moment) × (s : Standing)
-            × AnsweringStands LAG terminal loads self.old past s × (length past ≡ now.0) × (now.0 < 2 ^ 60) }
+            × AnsweringStands LAG terminal loads self.old past s × AreCuts LAG cuts.now heard past × (length past ≡ now.0) × (now.0 < 2 ^ 60) }
         ensures { (terminal : TerminalData) (loads : List TimedLoad) (past : List Moment) (s : Standing) (may : Bool) →
-            AnsweringStands LAG terminal loads self.old past s → length past ≡ now.0 →
+            AnsweringStands LAG terminal loads self.old past s → AreCuts LAG cuts.now heard past → length past ≡ now.0 →
             AfterStep LAG terminal loads (TerminalState.Answering self.new) result past (record { shown = heard; has_items = may }) s
             (accepted_on LAG terminal loads (record { shown = heard; has_items = may }) past s) }
     {
         let begins = begins_in(self.sent, self.sends.channel);
-        let both = self.common.listen(now.0, heard, begins);
+        let both = self.common.listen(now.0, heard, cuts, begins);
         let handled = is_found(&self.common.ears, both, &None, false);
         let newer = self
             .common

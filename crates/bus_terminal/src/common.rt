@@ -14,7 +14,7 @@ ghost use Rattle.bus_model.specs.Memory.{TimedLoad, Memory as Kept};
 ghost use Rattle.bus_terminal.specs.Quiet.{quiet_moments};
 ghost use Rattle.bus_terminal.specs.declared.common.Common.{Common as CommonData};
 ghost use Rattle.bus_terminal.specs.Stands.{CommonStands};
-ghost use Rattle.bus_terminal.specs.Holding.{Listens, EarsStand, AreListened, listened_of};
+ghost use Rattle.bus_terminal.specs.Holding.{Listens, EarsStand, AreCuts, AreListened, listened_of};
 ghost use Rattle.bus_terminal.specs.Hearing.{HasListened};
 
 use bus_base::{Channel, Pair, Sample};
@@ -22,6 +22,7 @@ use bus_ears::{Ear, Heard, HeardTick};
 use bus_formats::TerminalPlan;
 use bus_line::LAG;
 use bus_orders::Memory;
+use bus_receiver::Cuts;
 
 /// A terminal's description, its memory and its two ears.
 #[derive(Drop)]
@@ -64,24 +65,24 @@ impl Ears {
         own: u8,
         now: u64,
         heard: Pair,
+        cuts: &Cuts,
         begins: Option<Channel>,
     ) -> BothHeard
-        requires { (past : List Moment) × (s : spec.Standing) × EarsStand LAG own self.old past s × (length past ≡ now) × (now < 2 ^ 60) }
+        requires { (past : List Moment) × (s : spec.Standing) × EarsStand LAG own self.old past s × AreCuts LAG cuts.now heard past
+            × (length past ≡ now) × (now < 2 ^ 60) }
         ensures stands { (terminal : TerminalData) (past : List Moment) (s after : spec.Standing) (moment : Moment) → terminal.address ≡ own →
-            EarsStand LAG own self.old past s → length past ≡ now → moment.shown ≡ heard → Listens LAG terminal begins past s →
+            EarsStand LAG own self.old past s → AreCuts LAG cuts.now heard past → length past ≡ now → moment.shown ≡ heard → Listens LAG terminal begins past s →
             EarsStand LAG own self.new (moment ∷ past) (marked_by LAG terminal moment past s after) }
-        ensures tells { (past : List Moment) (s : spec.Standing) (moment : Moment) → EarsStand LAG own self.old past s → length past ≡ now →
-            moment.shown ≡ heard →
+        ensures tells { (past : List Moment) (s : spec.Standing) (moment : Moment) → EarsStand LAG own self.old past s →
+            AreCuts LAG cuts.now heard past → length past ≡ now → moment.shown ≡ heard →
             AreListened LAG own (listened_of self.new result) (moment ∷ past) past s }
     {
         let a_outrun = is_newer(Channel::B, self.b.addressed(), self.a.addressed());
         let b_outrun = is_newer(Channel::A, self.a.addressed(), self.b.addressed());
-        let a = self
-            .a
-            .hear(own, now, heard.a, begins_on(begins, Channel::A));
-        let b = self
-            .b
-            .hear(own, now, heard.b, begins_on(begins, Channel::B));
+        let begins_a = begins_on(begins, Channel::A);
+        let begins_b = begins_on(begins, Channel::B);
+        let a = self.a.hear(own, now, cuts.a, heard.a, begins_a);
+        let b = self.b.hear(own, now, cuts.b, heard.b, begins_b);
         BothHeard {
             a,
             b,
@@ -166,18 +167,24 @@ fn is_newer(other: Channel, theirs: Option<u64>, own: Option<u64>) -> bool
 impl Common {
     /// Hears both channels in tick `now`. The terminal's own transmission begins on a channel, or on none.
     #[inline(always)]
-    pub(crate) fn listen(&mut self, now: u64, heard: Pair, begins: Option<Channel>) -> BothHeard
+    pub(crate) fn listen(
+        &mut self,
+        now: u64,
+        heard: Pair,
+        cuts: &Cuts,
+        begins: Option<Channel>,
+    ) -> BothHeard
         requires { (terminal : TerminalData) × (loads : List TimedLoad) × (past : List Moment) × (s : spec.Standing)
-            × CommonStands LAG terminal loads self.old past s × (length past ≡ now) × (now < 2 ^ 60) }
+            × CommonStands LAG terminal loads self.old past s × AreCuts LAG cuts.now heard past × (length past ≡ now) × (now < 2 ^ 60) }
         ensures listened { (terminal : TerminalData) (loads : List TimedLoad) (past : List Moment) (s : spec.Standing) (moment : Moment) →
-            CommonStands LAG terminal loads self.old past s → length past ≡ now → moment.shown ≡ heard → Listens LAG terminal begins past s →
+            CommonStands LAG terminal loads self.old past s → AreCuts LAG cuts.now heard past → length past ≡ now → moment.shown ≡ heard → Listens LAG terminal begins past s →
             HasListened LAG terminal self.old self.new past moment s }
         ensures tells { (terminal : TerminalData) (loads : List TimedLoad) (past : List Moment) (s : spec.Standing) (moment : Moment) →
-            CommonStands LAG terminal loads self.old past s → length past ≡ now → moment.shown ≡ heard →
+            CommonStands LAG terminal loads self.old past s → AreCuts LAG cuts.now heard past → length past ≡ now → moment.shown ≡ heard →
             AreListened LAG terminal.address (listened_of self.new.ears result) (moment ∷ past) past s }
     {
         let own = own_address(&self.plan);
-        self.ears.listen(own, now, heard, begins)
+        self.ears.listen(own, now, heard, cuts, begins)
     }
 
     /// What the last tick brought, with the bursts, which are moved out.

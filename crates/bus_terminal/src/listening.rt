@@ -9,6 +9,7 @@ ghost use Rattle.bus_model.specs.Terminal.{accepted_on, standing};
 ghost use Rattle.bus_terminal.specs.Quiet.{quiet_moments};
 ghost use Rattle.bus_terminal.specs.Stands.{TerminalFits, ListeningStands, NextStands};
 ghost use Rattle.bus_terminal.specs.TerminalStands.{HasLoads};
+ghost use Rattle.bus_terminal.specs.Holding.{AreCuts};
 ghost use Rattle.bus_terminal.specs.Hearing.{ListeningHeard, AfterStep};
 ghost use Rattle.bus_terminal.specs.declared.listening.Listening.{Listening as ListeningData};
 
@@ -18,6 +19,7 @@ use crate::state::{Step, TerminalEvent, TerminalNext, TerminalState, act};
 use bus_base::{Pair, Tick};
 use bus_formats::{Load, TerminalPlan};
 use bus_orders::Memory;
+use bus_receiver::Cuts;
 
 /// It owes nothing: it waits for a command. What its last order left was carried out, given up, or taken back by a newer command on the other
 /// channel (MIL-STD-1553B 4.4.3.1, 4.4.3.2). A command that is answered or promises something leaves it, in the tick in which its burst's end is
@@ -44,18 +46,18 @@ impl Listening {
         }
     }
 
-    /// Hears what both channels show in the tick `now`, the number of the ticks heard before. `may_accept` says that the terminal's station has
+    /// Hears what both channels show in the tick `now`, the number of the ticks heard before, and what became known with it. `may_accept` says that the terminal's station has
     /// items left. Whatever history it stands for, the next state stands for it with this tick, and it tells the block that was taken whole in the
     /// tick, or that control was accepted.
-    pub fn hear(mut self, now: Tick, heard: Pair, may_accept: bool) -> TerminalNext
+    pub fn hear(mut self, now: Tick, heard: Pair, cuts: &Cuts, may_accept: bool) -> TerminalNext
         requires { (terminal : TerminalData) × (loads : List TimedLoad) × (past : List Moment) × (s : Standing)
-            × ListeningStands LAG terminal loads self past s × (length past ≡ now.0) × (now.0 < 2 ^ 60) }
+            × ListeningStands LAG terminal loads self past s × AreCuts LAG cuts.now heard past × (length past ≡ now.0) × (now.0 < 2 ^ 60) }
         ensures { (terminal : TerminalData) (loads : List TimedLoad) (past : List Moment) (s : Standing) →
-            ListeningStands LAG terminal loads self past s → length past ≡ now.0 →
+            ListeningStands LAG terminal loads self past s → AreCuts LAG cuts.now heard past → length past ≡ now.0 →
             NextStands LAG terminal loads result past (record { shown = heard; has_items = may_accept }) s
             (accepted_on LAG terminal loads (record { shown = heard; has_items = may_accept }) past s) }
     {
-        match self.listen(now, heard) {
+        match self.listen(now, heard, cuts) {
             Step::Stays => TerminalNext {
                 state: TerminalState::Listening(self),
                 event: TerminalEvent::Nothing,
@@ -64,17 +66,17 @@ impl Listening {
         }
     }
 
-    /// Hears what both channels show in the tick `now`, the number of the ticks heard before, and stays unless something is handled or it is left.
+    /// Hears what both channels show in the tick `now`, the number of the ticks heard before, and what became known with it, and stays unless something is handled or it is left.
     #[inline(always)]
-    pub(crate) fn listen(&mut self, now: Tick, heard: Pair) -> Step
+    pub(crate) fn listen(&mut self, now: Tick, heard: Pair, cuts: &Cuts) -> Step
         requires { (terminal : TerminalData) × (loads : List TimedLoad) × (past : List Moment) × (s : Standing)
-            × ListeningStands LAG terminal loads self.old past s × (length past ≡ now.0) × (now.0 < 2 ^ 60) }
+            × ListeningStands LAG terminal loads self.old past s × AreCuts LAG cuts.now heard past × (length past ≡ now.0) × (now.0 < 2 ^ 60) }
         ensures { (terminal : TerminalData) (loads : List TimedLoad) (past : List Moment) (s : Standing) (may : Bool) →
-            ListeningStands LAG terminal loads self.old past s → length past ≡ now.0 →
+            ListeningStands LAG terminal loads self.old past s → AreCuts LAG cuts.now heard past → length past ≡ now.0 →
             AfterStep LAG terminal loads (TerminalState.Listening self.new) result past (record { shown = heard; has_items = may }) s
             (accepted_on LAG terminal loads (record { shown = heard; has_items = may }) past s) }
     {
-        let both = self.common.listen(now.0, heard, None);
+        let both = self.common.listen(now.0, heard, cuts, None);
         Step::of(is_found(&self.common.ears, both, &None, false), both)
     }
 

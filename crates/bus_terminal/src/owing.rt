@@ -7,6 +7,7 @@ ghost use Rattle.bus_model.specs.Hearing.{Moment};
 ghost use Rattle.bus_model.specs.Standing.{Standing};
 ghost use Rattle.bus_model.specs.Terminal.{accepted_on};
 ghost use Rattle.bus_terminal.specs.Stands.{OwingStands, NextStands};
+ghost use Rattle.bus_terminal.specs.Holding.{AreCuts};
 ghost use Rattle.bus_terminal.specs.Hearing.{OwingHeard, AfterStep};
 ghost use Rattle.bus_terminal.specs.declared.owing.Owing.{Owing as OwingData};
 ghost use Rattle.bus_terminal.specs.Steps.{owing_on};
@@ -16,6 +17,7 @@ use crate::common::{BothHeard, Common, either, is_heard};
 use crate::handling::{found, is_found};
 use crate::state::{Sends, Step, TerminalEvent, TerminalNext, TerminalState, act, due, owe};
 use bus_base::{Pair, Tick};
+use bus_receiver::Cuts;
 
 /// Its answer begins after its own dead ticks, 4 to 20: fewer passed since the end of the burst that it answers (response time, MIL-STD-1553B
 /// 4.3.3.8). Left when the answer is due, at a sample on its channel, or at a newer command on the other (4.4.3.2).
@@ -26,18 +28,18 @@ pub struct Owing {
 }
 
 impl Owing {
-    /// Hears what both channels show in the tick `now`, the number of the ticks heard before. `may_accept` says that the terminal's station has
+    /// Hears what both channels show in the tick `now`, the number of the ticks heard before, and what became known with it. `may_accept` says that the terminal's station has
     /// items left. Whatever history it stands for, the next state stands for it with this tick, and it tells the block that was taken whole in the
     /// tick, or that control was accepted.
-    pub fn hear(mut self, now: Tick, heard: Pair, may_accept: bool) -> TerminalNext
+    pub fn hear(mut self, now: Tick, heard: Pair, cuts: &Cuts, may_accept: bool) -> TerminalNext
         requires { (terminal : TerminalData) × (loads : List TimedLoad) × (past : List Moment) × (s : Standing)
-            × OwingStands LAG terminal loads self past s × (length past ≡ now.0) × (now.0 < 2 ^ 60) }
+            × OwingStands LAG terminal loads self past s × AreCuts LAG cuts.now heard past × (length past ≡ now.0) × (now.0 < 2 ^ 60) }
         ensures { (terminal : TerminalData) (loads : List TimedLoad) (past : List Moment) (s : Standing) →
-            OwingStands LAG terminal loads self past s → length past ≡ now.0 →
+            OwingStands LAG terminal loads self past s → AreCuts LAG cuts.now heard past → length past ≡ now.0 →
             NextStands LAG terminal loads result past (record { shown = heard; has_items = may_accept }) s
             (accepted_on LAG terminal loads (record { shown = heard; has_items = may_accept }) past s) }
     {
-        match self.listen(now, heard) {
+        match self.listen(now, heard, cuts) {
             Step::Stays => TerminalNext {
                 state: TerminalState::Owing(self),
                 event: TerminalEvent::Nothing,
@@ -46,17 +48,17 @@ impl Owing {
         }
     }
 
-    /// Hears what both channels show in the tick `now`, the number of the ticks heard before, and stays unless something is handled or it is left.
+    /// Hears what both channels show in the tick `now`, the number of the ticks heard before, and what became known with it, and stays unless something is handled or it is left.
     #[inline(always)]
-    pub(crate) fn listen(&mut self, now: Tick, heard: Pair) -> Step
+    pub(crate) fn listen(&mut self, now: Tick, heard: Pair, cuts: &Cuts) -> Step
         requires { (terminal : TerminalData) × (loads : List TimedLoad) × (past : List Moment) × (s : Standing) × OwingStands LAG terminal loads self.old past s
-            × (length past ≡ now.0) × (now.0 < 2 ^ 60) }
+            × AreCuts LAG cuts.now heard past × (length past ≡ now.0) × (now.0 < 2 ^ 60) }
         ensures { (terminal : TerminalData) (loads : List TimedLoad) (past : List Moment) (s : Standing) (may : Bool) →
-            OwingStands LAG terminal loads self.old past s → length past ≡ now.0 →
+            OwingStands LAG terminal loads self.old past s → AreCuts LAG cuts.now heard past → length past ≡ now.0 →
             AfterStep LAG terminal loads (TerminalState.Owing self.new) result past (record { shown = heard; has_items = may }) s
             (accepted_on LAG terminal loads (record { shown = heard; has_items = may }) past s) }
     {
-        let both = self.common.listen(now.0, heard, None);
+        let both = self.common.listen(now.0, heard, cuts, None);
         let handled = is_found(&self.common.ears, both, &None, false);
         let newer = self
             .common

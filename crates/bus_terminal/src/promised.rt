@@ -8,6 +8,7 @@ ghost use Rattle.bus_model.specs.Hearing.{Moment};
 ghost use Rattle.bus_model.specs.Standing.{Standing};
 ghost use Rattle.bus_model.specs.Terminal.{accepted_on};
 ghost use Rattle.bus_terminal.specs.Stands.{PromisedStands, NextStands};
+ghost use Rattle.bus_terminal.specs.Holding.{AreCuts};
 ghost use Rattle.bus_terminal.specs.Hearing.{PromisedHeard, AfterStep};
 ghost use Rattle.bus_terminal.specs.declared.promised.Promised.{Promised as PromisedData};
 ghost use Rattle.bus_terminal.specs.Steps.{promised_on_told};
@@ -19,6 +20,7 @@ use crate::state::{Step, TerminalEvent, TerminalNext, TerminalState, act};
 use bus_base::{Pair, Tick};
 use bus_formats::RELAY_WAIT;
 use bus_orders::Promise;
+use bus_receiver::Cuts;
 
 /// It takes the next burst on the promise's channel, if that begins after at most 30 dead ticks. At most 30 passed since the end of the relay's
 /// command burst, or the awaited burst runs (terminal to terminal transfers, MIL-STD-1553B 4.3.3.6.3, 4.3.3.6.7.2). Left in the tick in which that
@@ -32,18 +34,18 @@ pub struct Promised {
 }
 
 impl Promised {
-    /// Hears what both channels show in the tick `now`, the number of the ticks heard before. `may_accept` says that the terminal's station has
+    /// Hears what both channels show in the tick `now`, the number of the ticks heard before, and what became known with it. `may_accept` says that the terminal's station has
     /// items left. Whatever history it stands for, the next state stands for it with this tick, and it tells the block that was taken whole in the
     /// tick, or that control was accepted.
-    pub fn hear(mut self, now: Tick, heard: Pair, may_accept: bool) -> TerminalNext
+    pub fn hear(mut self, now: Tick, heard: Pair, cuts: &Cuts, may_accept: bool) -> TerminalNext
         requires { (terminal : TerminalData) × (loads : List TimedLoad) × (past : List Moment) × (s : Standing)
-            × PromisedStands LAG terminal loads self past s × (length past ≡ now.0) × (now.0 < 2 ^ 60) }
+            × PromisedStands LAG terminal loads self past s × AreCuts LAG cuts.now heard past × (length past ≡ now.0) × (now.0 < 2 ^ 60) }
         ensures { (terminal : TerminalData) (loads : List TimedLoad) (past : List Moment) (s : Standing) →
-            PromisedStands LAG terminal loads self past s → length past ≡ now.0 →
+            PromisedStands LAG terminal loads self past s → AreCuts LAG cuts.now heard past → length past ≡ now.0 →
             NextStands LAG terminal loads result past (record { shown = heard; has_items = may_accept }) s
             (accepted_on LAG terminal loads (record { shown = heard; has_items = may_accept }) past s) }
     {
-        match self.listen(now, heard) {
+        match self.listen(now, heard, cuts) {
             Step::Stays => TerminalNext {
                 state: TerminalState::Promised(self),
                 event: TerminalEvent::Nothing,
@@ -52,17 +54,17 @@ impl Promised {
         }
     }
 
-    /// Hears what both channels show in the tick `now`, the number of the ticks heard before, and stays unless something is handled or it is left.
+    /// Hears what both channels show in the tick `now`, the number of the ticks heard before, and what became known with it, and stays unless something is handled or it is left.
     #[inline(always)]
-    pub(crate) fn listen(&mut self, now: Tick, heard: Pair) -> Step
+    pub(crate) fn listen(&mut self, now: Tick, heard: Pair, cuts: &Cuts) -> Step
         requires { (terminal : TerminalData) × (loads : List TimedLoad) × (past : List Moment) × (s : Standing)
-            × PromisedStands LAG terminal loads self.old past s × (length past ≡ now.0) × (now.0 < 2 ^ 60) }
+            × PromisedStands LAG terminal loads self.old past s × AreCuts LAG cuts.now heard past × (length past ≡ now.0) × (now.0 < 2 ^ 60) }
         ensures { (terminal : TerminalData) (loads : List TimedLoad) (past : List Moment) (s : Standing) (may : Bool) →
-            PromisedStands LAG terminal loads self.old past s → length past ≡ now.0 →
+            PromisedStands LAG terminal loads self.old past s → AreCuts LAG cuts.now heard past → length past ≡ now.0 →
             AfterStep LAG terminal loads (TerminalState.Promised self.new) result past (record { shown = heard; has_items = may }) s
             (accepted_on LAG terminal loads (record { shown = heard; has_items = may }) past s) }
     {
-        let both = self.common.listen(now.0, heard, None);
+        let both = self.common.listen(now.0, heard, cuts, None);
         self.heard = either(self.heard, is_heard(heard, self.waiting.channel));
         let out = runs_out(now.0, self.waiting.end, self.heard);
         let handled = is_found(&self.common.ears, both, &Some(self.waiting), out);

@@ -8,7 +8,7 @@ ghost use Rattle.bus_model.specs.Hearing.{Moment};
 ghost use Rattle.bus_model.specs.Standing.{Standing, Handled as Order};
 ghost use Rattle.bus_model.specs.Terminal.{order_now, marked_by, accepted_on};
 ghost use Rattle.bus_terminal.specs.Handling as handling;
-ghost use Rattle.bus_terminal.specs.Holding.{EarsStand};
+ghost use Rattle.bus_terminal.specs.Holding.{EarsStand, AreCuts};
 ghost use Rattle.bus_terminal.specs.Stands as stands;
 ghost use Rattle.bus_terminal.specs.Shown as shown;
 ghost use Rattle.bus_terminal.specs.declared.common.Common.{Common as CommonData};
@@ -21,6 +21,7 @@ use crate::{Answering, Listening, Owing, Promised};
 use bus_base::{Channel, Drive, Pair, Part, Tick};
 use bus_formats::{Delivery, TerminalPlan, dead_ticks};
 use bus_orders::{Answer, Duty, Taken};
+use bus_receiver::Cuts;
 
 /// What a terminal tells of a tick: a block that it took whole, or that it accepted control of the bus.
 #[derive(Drop)]
@@ -182,21 +183,21 @@ pub(crate) fn act(common: Common, now: u64, handled: Handled, may_accept: bool) 
 }
 
 impl TerminalState {
-    /// Hears what both channels show in the tick `now`, the number of the ticks heard before, and stays unless something is handled or it is left.
+    /// Hears what both channels show in the tick `now`, the number of the ticks heard before, and what became known with it, and stays unless something is handled or it is left.
     #[inline(always)]
-    pub(crate) fn listen(&mut self, now: Tick, heard: Pair) -> Step
+    pub(crate) fn listen(&mut self, now: Tick, heard: Pair, cuts: &Cuts) -> Step
         requires { (terminal : TerminalData) × (loads : List TimedLoad) × (past : List Moment) × (s : Standing)
-            × stands.StateStands LAG terminal loads self.old past s × (length past ≡ now.0) × (now.0 < 2 ^ 60) }
+            × stands.StateStands LAG terminal loads self.old past s × AreCuts LAG cuts.now heard past × (length past ≡ now.0) × (now.0 < 2 ^ 60) }
         ensures { (terminal : TerminalData) (loads : List TimedLoad) (past : List Moment) (s : Standing) (may : Bool) →
-            stands.StateStands LAG terminal loads self.old past s → length past ≡ now.0 →
+            stands.StateStands LAG terminal loads self.old past s → AreCuts LAG cuts.now heard past → length past ≡ now.0 →
             AfterStep LAG terminal loads self.new result past (record { shown = heard; has_items = may }) s
             (accepted_on LAG terminal loads (record { shown = heard; has_items = may }) past s) }
     {
         match self {
-            TerminalState::Listening(state) => state.listen(now, heard),
-            TerminalState::Promised(state) => state.listen(now, heard),
-            TerminalState::Owing(state) => state.listen(now, heard),
-            TerminalState::Answering(state) => state.listen(now, heard),
+            TerminalState::Listening(state) => state.listen(now, heard, cuts),
+            TerminalState::Promised(state) => state.listen(now, heard, cuts),
+            TerminalState::Owing(state) => state.listen(now, heard, cuts),
+            TerminalState::Answering(state) => state.listen(now, heard, cuts),
         }
     }
 

@@ -7,7 +7,9 @@ ghost use Rattle.bus_model.specs.Hearing.{Hearing, Moment};
 ghost use Rattle.bus_model.specs.Standing.{Standing};
 ghost use Rattle.bus_model.specs.Terminal.{took_now, accepted_now, accepted_on, drives, memory_after, standing, order_now};
 ghost use Rattle.bus_terminal.specs.Stands.{TerminalFits, StateStands, NextStands, TakenIs, AcceptedIs, channel_of};
-ghost use Rattle.bus_terminal.specs.TerminalStands.{TerminalStands, HasLoads};
+ghost use Rattle.bus_terminal.specs.TerminalStands.{TerminalStands, TerminalKeeps, TerminalHears, HasLoads};
+ghost use Rattle.bus_terminal.specs.Holding.{AreCuts};
+ghost use Rattle.bus_receiver.specs.Cuts.{CuttersHear};
 ghost use Rattle.bus_terminal.specs.Quiet.{quiet_moments};
 ghost use Rattle.bus_terminal.specs.Stands.{AreMade, RestsFrom};
 ghost use Rattle.bus_terminal.specs.Shown.{common_of};
@@ -21,12 +23,14 @@ use bus_base::{Drive, Pair, Tick};
 use bus_buffers::Buffers;
 use bus_formats::{Registers, TerminalPlan};
 use bus_orders::status_of;
+use bus_receiver::{Cuts, Cutters};
 use bus_words::Status;
 
-/// A remote terminal.
+/// A remote terminal. It hears both channels by its own cutters, or is told what became known of them.
 #[derive(Drop)]
 pub struct Terminal {
     state: TerminalState,
+    cutters: Cutters,
 }
 
 impl Terminal {
@@ -39,6 +43,7 @@ impl Terminal {
     {
         Terminal {
             state: TerminalState::Listening(Listening::new(plan)),
+            cutters: Cutters::new(),
         }
     }
 
@@ -61,12 +66,45 @@ impl Terminal {
             length hearing.ticks ≡ now.0 →
             AcceptedIs result (accepted_now LAG plan loads (record hearing { ticks = record { shown = heard; has_items = may_accept } ∷ hearing.ticks })) }
     {
-        self.step(now, heard, may_accept)
+        let cuts = self.cut(heard);
+        self.learn(now, heard, &cuts, may_accept)
+    }
+
+    /// What becomes known of both channels, by its own cutters, with what they show in the next tick. Of all else it hears that tick by `learn`.
+    #[inline(always)]
+    pub fn cut(&mut self, heard: Pair) -> Cuts
+        requires { (ticks : List Moment) × TerminalHears LAG self.old ticks × (length ticks < 2 ^ 60) }
+        ensures state { self.new.state ≡ self.old.state }
+        ensures hears { CuttersHear LAG self.old.cutters self.new.cutters heard result }
+    {
+        self.cutters.hear(heard)
+    }
+
+    /// Hears the tick `now` as `hear` does, where this is what became known of both channels with it. Its own cutters don't hear it.
+    #[inline(always)]
+    pub fn learn(&mut self, now: Tick, heard: Pair, cuts: &Cuts, may_accept: bool) -> TerminalEvent
+        requires { (plan : TerminalData) × (loads : List TimedLoad) × (hearing : Hearing) × TerminalKeeps LAG plan loads self.old hearing
+            × AreCuts LAG cuts.now heard hearing.ticks × (length hearing.ticks ≡ now.0) × (now.0 < 2 ^ 60) }
+        ensures stands { (plan : TerminalData) (loads : List TimedLoad) (hearing : Hearing) → TerminalKeeps LAG plan loads self.old hearing →
+            AreCuts LAG cuts.now heard hearing.ticks → length hearing.ticks ≡ now.0 →
+            TerminalKeeps LAG plan loads self.new (record hearing { ticks = record { shown = heard; has_items = may_accept } ∷ hearing.ticks }) }
+        ensures took { (plan : TerminalData) (loads : List TimedLoad) (hearing : Hearing) → TerminalKeeps LAG plan loads self.old hearing →
+            AreCuts LAG cuts.now heard hearing.ticks → length hearing.ticks ≡ now.0 →
+            TakenIs result now.0
+            (channel_of (standing LAG plan loads hearing.memory hearing.ticks)
+            (order_now LAG plan (record { shown = heard; has_items = may_accept } ∷ hearing.ticks) (standing LAG plan loads hearing.memory hearing.ticks)))
+            (took_now LAG plan loads (record hearing { ticks = record { shown = heard; has_items = may_accept } ∷ hearing.ticks })) }
+        ensures accepted { (plan : TerminalData) (loads : List TimedLoad) (hearing : Hearing) → TerminalKeeps LAG plan loads self.old hearing →
+            AreCuts LAG cuts.now heard hearing.ticks → length hearing.ticks ≡ now.0 →
+            AcceptedIs result (accepted_now LAG plan loads (record hearing { ticks = record { shown = heard; has_items = may_accept } ∷ hearing.ticks })) }
+        ensures cutters { self.new.cutters ≡ self.old.cutters }
+    {
+        self.step(now, heard, cuts, may_accept)
     }
 
     /// What it sends in the next tick.
     pub fn drive(&self) -> Drive
-        ensures { (plan : TerminalData) (loads : List TimedLoad) (hearing : Hearing) → TerminalStands LAG plan loads self.now hearing →
+        ensures { (plan : TerminalData) (loads : List TimedLoad) (hearing : Hearing) → TerminalKeeps LAG plan loads self.now hearing →
             result ≡ drives LAG plan loads hearing }
     {
         self.state.drive()
@@ -74,7 +112,7 @@ impl Terminal {
 
     /// Its registers.
     pub fn registers(&self) -> &Registers
-        ensures { (plan : TerminalData) (loads : List TimedLoad) (hearing : Hearing) → TerminalStands LAG plan loads self.now hearing →
+        ensures { (plan : TerminalData) (loads : List TimedLoad) (hearing : Hearing) → TerminalKeeps LAG plan loads self.now hearing →
             result.now ≡ (memory_after LAG plan loads hearing).registers }
     {
         self.state.common().memory.registers()
@@ -82,7 +120,7 @@ impl Terminal {
 
     /// Its blocks.
     pub fn buffers(&self) -> &Buffers
-        ensures { (plan : TerminalData) (loads : List TimedLoad) (hearing : Hearing) → TerminalStands LAG plan loads self.now hearing →
+        ensures { (plan : TerminalData) (loads : List TimedLoad) (hearing : Hearing) → TerminalKeeps LAG plan loads self.now hearing →
             result.now ≡ record { received = (memory_after LAG plan loads hearing).received; transmit = (memory_after LAG plan loads hearing).transmit } }
     {
         self.state.common().memory.buffers()
@@ -90,8 +128,8 @@ impl Terminal {
 
     /// Its status word, formed from the registers as they stand, without acceptance.
     pub fn status(&self) -> Status
-        requires { (plan : TerminalData) × (loads : List TimedLoad) × (hearing : Hearing) × TerminalStands LAG plan loads self.now hearing }
-        ensures { (plan : TerminalData) (loads : List TimedLoad) (hearing : Hearing) → TerminalStands LAG plan loads self.now hearing →
+        requires { (plan : TerminalData) × (loads : List TimedLoad) × (hearing : Hearing) × TerminalKeeps LAG plan loads self.now hearing }
+        ensures { (plan : TerminalData) (loads : List TimedLoad) (hearing : Hearing) → TerminalKeeps LAG plan loads self.now hearing →
             result ≡ kept.status_of plan (memory_after LAG plan loads hearing).registers false }
     {
         let common = self.state.common();
@@ -100,10 +138,11 @@ impl Terminal {
 
     /// It listens as after any number of quiet ticks; what it keeps stays.
     pub fn wake(&mut self)
-        ensures { (plan : TerminalData) (loads : List TimedLoad) (hearing : Hearing) (n : ℕ) → TerminalStands LAG plan loads self.old hearing →
+        ensures { (plan : TerminalData) (loads : List TimedLoad) (hearing : Hearing) (n : ℕ) → TerminalKeeps LAG plan loads self.old hearing →
             AreMade plan.address n loads →
             TerminalStands LAG plan loads self.new (record { memory = memory_after LAG plan loads hearing; ticks = quiet_moments n }) }
     {
+        self.cutters = Cutters::new();
         self.rest()
     }
 
@@ -115,18 +154,20 @@ impl Terminal {
         requires some { 1 ≤ length words.now }
         requires fits { length words.now ≤ 32 }
         ensures timed { (plan : TerminalData) (loads : List TimedLoad) (memory : kept.Memory) (now : Moment) (past : List Moment) →
-            TerminalStands LAG plan loads self.old (record { memory = memory; ticks = now ∷ past }) →
-            TerminalStands LAG plan (loads ++ record { tick = length past; address = plan.address; sub = sub; words = words.now } ∷ []) self.new
+            TerminalKeeps LAG plan loads self.old (record { memory = memory; ticks = now ∷ past }) →
+            TerminalKeeps LAG plan (loads ++ record { tick = length past; address = plan.address; sub = sub; words = words.now } ∷ []) self.new
             (record { memory = memory; ticks = now ∷ past }) }
         ensures at_once { (plan : TerminalData) (loads : List TimedLoad) (memory : kept.Memory) →
-            TerminalStands LAG plan loads self.old (record { memory = memory; ticks = [] }) →
-            TerminalStands LAG plan loads self.new (record { memory = kept.load_block memory sub words.now; ticks = [] }) }
+            TerminalKeeps LAG plan loads self.old (record { memory = memory; ticks = [] }) →
+            TerminalKeeps LAG plan loads self.new (record { memory = kept.load_block memory sub words.now; ticks = [] }) }
+        ensures cutters { self.new.cutters ≡ self.old.cutters }
     {
         self.state.load(sub, words);
     }
 
     fn rest(&mut self)
-        ensures { RestsFrom LAG self.new.state (common_of self.old.state) }
+        ensures state { RestsFrom LAG self.new.state (common_of self.old.state) }
+        ensures cutters { self.new.cutters ≡ self.old.cutters }
     {
         core::mem::replace_with(
             &mut self.state,
@@ -135,16 +176,18 @@ impl Terminal {
         )
     }
 
-    fn step(&mut self, now: Tick, heard: Pair, may_accept: bool) -> TerminalEvent
+    #[inline(always)]
+    fn step(&mut self, now: Tick, heard: Pair, cuts: &Cuts, may_accept: bool) -> TerminalEvent
         requires { (terminal : TerminalData) × (loads : List TimedLoad) × (past : List Moment) × (s : Standing)
-            × StateStands LAG terminal loads self.old.state past s × (length past ≡ now.0) × (now.0 < 2 ^ 60) }
-        ensures { (terminal : TerminalData) (loads : List TimedLoad) (past : List Moment) (s : Standing) →
-            StateStands LAG terminal loads self.old.state past s →
+            × StateStands LAG terminal loads self.old.state past s × AreCuts LAG cuts.now heard past × (length past ≡ now.0) × (now.0 < 2 ^ 60) }
+        ensures next { (terminal : TerminalData) (loads : List TimedLoad) (past : List Moment) (s : Standing) →
+            StateStands LAG terminal loads self.old.state past s → AreCuts LAG cuts.now heard past →
             length past ≡ now.0 → NextStands LAG terminal loads (record { state = self.new.state; event = result })
             past (record { shown = heard; has_items = may_accept }) s
             (accepted_on LAG terminal loads (record { shown = heard; has_items = may_accept }) past s) }
+        ensures cutters { self.new.cutters ≡ self.old.cutters }
     {
-        match self.state.listen(now, heard) {
+        match self.state.listen(now, heard, cuts) {
             Step::Stays => TerminalEvent::Nothing,
             Step::Changes(both) => self.change(now, heard, both, may_accept),
         }
@@ -154,9 +197,10 @@ impl Terminal {
     fn change(&mut self, now: Tick, heard: Pair, both: BothHeard, may_accept: bool) -> TerminalEvent
         requires { (terminal : TerminalData) × (loads : List TimedLoad) × (past : List Moment) × (moment : Moment) × (s : Standing)
             × StateHeard LAG terminal loads self.old.state both past moment s × (length past ≡ now.0) × (now.0 < 2 ^ 60) }
-        ensures { (terminal : TerminalData) (loads : List TimedLoad) (past : List Moment) (moment : Moment) (s : Standing) →
+        ensures next { (terminal : TerminalData) (loads : List TimedLoad) (past : List Moment) (moment : Moment) (s : Standing) →
             StateHeard LAG terminal loads self.old.state both past moment s → length past ≡ now.0 → moment.shown ≡ heard → moment.has_items ≡ may_accept →
             NextStands LAG terminal loads (record { state = self.new.state; event = result }) past moment s (accepted_on LAG terminal loads moment past s) }
+        ensures cutters { self.new.cutters ≡ self.old.cutters }
     {
         core::mem::replace_with(
             &mut self.state,

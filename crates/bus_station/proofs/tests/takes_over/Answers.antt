@@ -1,8 +1,10 @@
 use Rattle.std.proofs.Common.{◌≡◌, ℕ, Bool, true, false, ◌∷◌, length, Option, Some, None, refl, sym, ap, ◌∙◌, arith}
 use Rattle.bus_base.specs.declared.samples.Pair.{Pair}
 use Rattle.bus_base.specs.declared.samples.Sample.TheVariants.{Quiet}
+use Rattle.bus_line.specs.declared.cutter.TheConstants.{LAG}
 use Rattle.bus_station.specs.Roles.{role_by}
 use Rattle.bus_station.specs.declared.role.Role.TheVariants.{Serving}
+use Rattle.bus_station.proofs.Own.{stands-keeps}
 use Rattle.bus_station.proofs.tests.takes_over.Goals as goal
 
 silence : Pair
@@ -19,7 +21,9 @@ unfolding silence
 take-requires c =
     let (plan, starts, loads, outside, past, st, here) = c.requires in
     let heard = c.hear.ensures.stands plan starts loads outside past st in
-    let many = c.items_left.ensures plan starts loads outside (silence ∷ past) heard in
+    let before = stands-keeps LAG plan starts loads outside _ past st in
+    let after = stands-keeps LAG plan starts loads outside _ (silence ∷ past) heard in
+    let many = c.items_left.ensures plan starts loads outside (silence ∷ past) after in
     let some = c.if-items_left-gt0.true in (
       plan,
       starts,
@@ -28,18 +32,31 @@ take-requires c =
       silence,
       past,
       heard,
-      serving _ _ (sym c.in-Serving.is ∙ c.role-before.ensures plan starts loads outside past st),
-      serving _ _ (sym c.in-Serving-role.is ∙ c.role.ensures plan starts loads outside (silence ∷ past) heard),
+      serving _ _ (sym c.in-Serving.is ∙ c.role-before.ensures plan starts loads outside past before),
+      serving _ _ (sym c.in-Serving-role.is ∙ c.role.ensures plan starts loads outside (silence ∷ past) after),
       λ none. (let no = ap length none in omega (arith, many, some, no)),
       omega (arith, here),
     )
+
+pub load-requires-clause-heard : goal.load-requires-clause-heard
+unfolding silence
+load-requires-clause-heard c =
+    let (plan, starts, loads, outside, past, st, here) = c.requires in
+    let heard = c.hear.ensures.stands plan starts loads outside past st in
+    let keeps = stands-keeps LAG plan starts loads outside _ past st in
+    let before = serving _ _ (sym c.in-Serving.is ∙ c.role-before.ensures plan starts loads outside past keeps) in
+    let later = stands-keeps LAG plan starts loads outside _ (silence ∷ past) heard in
+    let after = serving _ _ (sym c.in-Serving-role.is ∙ c.role.ensures plan starts loads outside (silence ∷ past) later) in
+    (plan, starts, loads, _, silence, past, c.take.ensures.stands plan starts loads outside silence past heard before after (omega (arith, here)))
 
 pub returns-then-items_left-gt0 : goal.returns-then-items_left-gt0
 unfolding silence
 returns-then-items_left-gt0 c =
     let (plan, starts, loads, outside, past, st, here) = c.requires in
     let heard = c.hear.ensures.stands plan starts loads outside past st in
-    let before = serving _ _ (sym c.in-Serving.is ∙ c.role-before.ensures plan starts loads outside past st) in
-    let after = serving _ _ (sym c.in-Serving-role.is ∙ c.role.ensures plan starts loads outside (silence ∷ past) heard) in
+    let keeps = stands-keeps LAG plan starts loads outside _ past st in
+    let before = serving _ _ (sym c.in-Serving.is ∙ c.role-before.ensures plan starts loads outside past keeps) in
+    let later = stands-keeps LAG plan starts loads outside _ (silence ∷ past) heard in
+    let after = serving _ _ (sym c.in-Serving-role.is ∙ c.role.ensures plan starts loads outside (silence ∷ past) later) in
     let taken = c.take.ensures.stands plan starts loads outside silence past heard before after (omega (arith, here)) in
     (plan, starts, _, _, silence ∷ past, c.load.ensures.stands plan starts loads _ silence past taken, omega (arith, here))

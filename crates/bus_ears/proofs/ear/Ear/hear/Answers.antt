@@ -7,18 +7,17 @@ use Rattle.bus_ears.proofs.ear.Ear.hear.Goals as goal
 
 pub follow-ended-requires : goal.follow-ended-requires
 follow-ended-requires c =
-    let (heard, sent, addressed, st, here, small) = c.requires in
-    rw (c.hear-cut.ensures.cut heard st.cutter, ← here)
-    (end-fits LAG c.args.sample heard _ (omega (arith, here, small)) (cut-tells LAG (c.args.sample ∷ heard)))
+    let (heard, sent, addressed, st, is, here, small) = c.requires in
+    rw (is, ← here) (end-fits LAG c.args.sample heard _ (omega (arith, here, small)) (cut-tells LAG (c.args.sample ∷ heard)))
 
 pub returns-clause-stands : goal.returns-clause-stands
-returns-clause-stands c = λ heard sent addressed st here.
-    ear-stands LAG MOST_SLOTS c.args.own c.args.self.now c.follow-ended.new.self c.hear-cut.new.self c.args.sample heard sent addressed
-    c.sending_after-self.result c.args.begins c.is_some-ignored.result c.args.now c.hear-cut.result (omega arith) st here c.is_some-ignored.ensures
-    (c.hear-cut.ensures.cut heard st.cutter) (c.hear-cut.ensures.stands heard st.cutter) c.follow-ended.ensures.after c.sending_after-self.ensures
+returns-clause-stands c = λ heard sent addressed st is here.
+    ear-stands LAG MOST_SLOTS c.args.own c.args.self.now c.follow-ended.new.self c.args.sample heard sent addressed
+    c.sending_after-self.result c.args.begins c.is_some-ignored.result c.args.now c.args.cut (omega arith) st here c.is_some-ignored.ensures
+    is c.follow-ended.ensures.after c.sending_after-self.ensures
 
 pub returns-clause-tells : goal.returns-clause-tells
-returns-clause-tells c = λ heard sent addressed st here.
-    ear-tells LAG MOST_SLOTS c.args.own c.args.self.now c.follow-ended.new.self c.hear-cut.new.self c.args.sample heard sent addressed
-    c.is_some-ignored.result c.follow-ended.result c.args.now c.hear-cut.result st here c.is_some-ignored.ensures
-    (c.hear-cut.ensures.cut heard st.cutter) c.follow-ended.ensures.after c.follow-ended.ensures.told
+returns-clause-tells c = λ heard sent addressed st is here.
+    ear-tells LAG MOST_SLOTS c.args.own c.args.self.now c.follow-ended.new.self c.args.sample heard sent addressed
+    c.is_some-ignored.result c.follow-ended.result c.args.now c.args.cut st here c.is_some-ignored.ensures
+    is c.follow-ended.ensures.after c.follow-ended.ensures.told

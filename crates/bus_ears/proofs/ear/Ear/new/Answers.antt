@@ -9,8 +9,7 @@ use Rattle.bus_ears.proofs.ear.Ear.new.Goals as goal
 
 pub returns : goal.returns
 returns c = λ own n. record {
-  cutter = c.new.ensures.stands n;
-  slots = rw (running-off LAG (quiet_ticks n) (rests-alone LAG n), c.new-2.ensures) (holds-none MOST_SLOTS own);
+  slots = rw (running-off LAG (quiet_ticks n) (rests-alone LAG n), c.new.ensures) (holds-none MOST_SLOTS own);
   addressed_is = refl;
   before = tt;
   ignores = refl;

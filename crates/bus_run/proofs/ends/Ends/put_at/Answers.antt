@@ -23,4 +23,4 @@ returns-clause-put c plan s past found are here st put =
     c.requires.place c.index.ensures in
     let same : s.terminal.address ≡ c.args.address = sym own ∙ c.if-index-address.false in
     subst (λ xs. ArePut (found ++ xs) c.put.new.self) (sym (at-address p c.args.address same))
-    (c.put.ensures.put p (hearing_after LAG s (starts plan s) [] [] past) found (c.terminal.ensures s (starts plan s) [] [] past st) refl same put)
+    (c.put.ensures.put p (hearing_after LAG s (starts plan s) [] [] past) found (c.terminal.ensures.keeps s (starts plan s) [] [] past st) refl same put)

@@ -10,26 +10,26 @@ use Rattle.bus_terminal.proofs.answering.Answering.listen.Goals as goal
 
 pub listen-both-requires : goal.listen-both-requires
 listen-both-requires c =
-    let (terminal, loads, past, s, st, here, small) = c.requires in
-    (terminal, loads, past, s, st.common, here, small)
+    let (terminal, loads, past, s, st, is, here, small) = c.requires in
+    (terminal, loads, past, s, st.common, is, here, small)
 
 pub supersede-newer-requires : goal.supersede-newer-requires
 supersede-newer-requires c =
-    let (terminal, loads, past, s, st, here, small) = c.requires in
+    let (terminal, loads, past, s, st, is, here, small) = c.requires in
     omega (arith, st.sends.end, st.common.ended, here, small)
 
 pub overflow_add-self : goal.overflow_add-self
 overflow_add-self c =
-    let (terminal, loads, past, s, st, here, small) = c.requires in
+    let (terminal, loads, past, s, st, is, here, small) = c.requires in
     omega (arith, st.sent, here, small)
 
 pub returns : goal.returns
-returns c = λ terminal loads past s may st here.
+returns c = λ terminal loads past s may st is here.
     let moment : Moment = record { shown = c.args.heard; has_items = may } in
     let begins = subst (λ (o : Option Channel). Listens LAG terminal o past s) (sym c.begins_in-begins.ensures)
     (answering-listens LAG terminal loads c.args.self.now past s st) in
-    let listened = c.listen-both.ensures.listened terminal loads past s moment st.common here refl begins in
-    let told = c.listen-both.ensures.tells terminal loads past s moment st.common here refl in
+    let listened = c.listen-both.ensures.listened terminal loads past s moment st.common is here refl begins in
+    let told = c.listen-both.ensures.tells terminal loads past s moment st.common is here refl in
     let stands = listened.stands s in
     rw (c.of.ensures, c.either.ensures, c.either-left.ensures) (answering-step LAG terminal loads c.args.self.now
     (record { common = c.listen-both.new.self; sends = c.args.self.now.sends; sent = c.args.self.now.sent + 1 }) c.listen-both.result past moment s

@@ -8,25 +8,25 @@ use Rattle.bus_terminal.proofs.owing.Owing.listen.Goals as goal
 
 pub listen-both-requires : goal.listen-both-requires
 listen-both-requires c =
-    let (terminal, loads, past, s, st, here, small) = c.requires in
-    (terminal, loads, past, s, st.common, here, small)
+    let (terminal, loads, past, s, st, is, here, small) = c.requires in
+    (terminal, loads, past, s, st.common, is, here, small)
 
 pub supersede-newer-requires : goal.supersede-newer-requires
 supersede-newer-requires c =
-    let (terminal, loads, past, s, st, here, small) = c.requires in
+    let (terminal, loads, past, s, st, is, here, small) = c.requires in
     omega (arith, st.sends.end, st.common.ended, here, small)
 
 pub due-requires : goal.due-requires
 due-requires c =
-    let (terminal, loads, past, s, st, here, small) = c.requires in
+    let (terminal, loads, past, s, st, is, here, small) = c.requires in
     omega (arith, st.sends.end, st.common.ended, here, small)
 
 pub returns : goal.returns
-returns c = λ terminal loads past s may st here.
+returns c = λ terminal loads past s may st is here.
     let moment : Moment = record { shown = c.args.heard; has_items = may } in
-    let listened = c.listen-both.ensures.listened terminal loads past s moment st.common here refl
+    let listened = c.listen-both.ensures.listened terminal loads past s moment st.common is here refl
     (owing-listens LAG terminal loads c.args.self.now past s st) in
-    let told = c.listen-both.ensures.tells terminal loads past s moment st.common here refl in
+    let told = c.listen-both.ensures.tells terminal loads past s moment st.common is here refl in
     rw (c.of.ensures, c.either-2.ensures, c.either-left.ensures, c.either.ensures) (owing-step LAG terminal loads c.args.self.now
     (record { common = c.listen-both.new.self; sends = c.args.self.now.sends }) c.listen-both.result past moment s (c.args.now.0 + 1)
     c.is_found-handled.result c.supersede-newer.result c.is_heard-dropped.result (nat_le c.due.result (c.args.now.0 + 1))

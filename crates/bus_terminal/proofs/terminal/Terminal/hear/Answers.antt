@@ -1,36 +1,49 @@
-use Rattle.std.proofs.Common.{ℕ, ◌∷◌, length, subst}
+use Rattle.std.proofs.Common.{◌∷◌, sym, subst, arith}
+use Rattle.bus_base.specs.declared.samples.Channel.TheVariants.{A, B}
 use Rattle.bus_line.specs.declared.cutter.TheConstants.{LAG}
-use Rattle.bus_model.specs.Hearing.{Moment}
-use Rattle.bus_model.specs.Standing.{Standing}
-use Rattle.bus_model.specs.Terminal.{standing, order_now, taken_by}
-use Rattle.bus_terminal.proofs.Quiet.{standing-tick}
-use Rattle.bus_terminal.specs.Stands.{TakenIs, channel_of}
+use Rattle.bus_model.specs.Hearing.{heard_on}
+use Rattle.bus_receiver.specs.Cuts.{CuttersStand}
+use Rattle.bus_receiver.specs.declared.cutters.Cutters.{Cutters}
 use Rattle.bus_terminal.specs.TerminalStands.{TerminalStands}
+use Rattle.bus_terminal.proofs.Resting.{keeps-alike}
 use Rattle.bus_terminal.proofs.terminal.Terminal.hear.Goals as goal
 
-pub step-requires : goal.step-requires
+pub cut-cuts-requires : goal.cut-cuts-requires
 unfolding TerminalStands
-step-requires c =
+cut-cuts-requires c =
     let (plan, loads, hearing, st, here, small) = c.requires in
-    (plan, loads, hearing.ticks, standing LAG plan loads hearing.memory hearing.ticks, st, here, small)
+    (hearing.ticks, st.1, omega (arith, here, small))
+
+pub learn-requires : goal.learn-requires
+unfolding TerminalStands
+learn-requires c =
+    let (plan, loads, hearing, st, here, small) = c.requires in (
+      plan,
+      loads,
+      hearing,
+      keeps-alike LAG plan loads c.args.self.now c.cut-cuts.new.self hearing c.cut-cuts.ensures.state st.0,
+      c.cut-cuts.ensures.hears.tells (heard_on A hearing.ticks) (heard_on B hearing.ticks) st.1,
+      here,
+      small,
+    )
 
 pub returns-clause-stands : goal.returns-clause-stands
 unfolding TerminalStands
-returns-clause-stands c = λ plan loads hearing st here.
-    let now : Moment = record { shown = c.args.heard; has_items = c.args.may_accept } in
-    rw (standing-tick LAG plan loads hearing.memory now hearing.ticks)
-    (c.step.ensures plan loads hearing.ticks (standing LAG plan loads hearing.memory hearing.ticks) st here).state
+returns-clause-stands c = λ plan loads hearing st here. (
+  c.learn.ensures.stands plan loads hearing (keeps-alike LAG plan loads c.args.self.now c.cut-cuts.new.self hearing c.cut-cuts.ensures.state st.0)
+      (c.cut-cuts.ensures.hears.tells (heard_on A hearing.ticks) (heard_on B hearing.ticks) st.1) here,
+  subst (λ (cutters : Cutters). CuttersStand LAG cutters (c.args.heard.a ∷ heard_on A hearing.ticks) (c.args.heard.b ∷ heard_on B hearing.ticks))
+      (sym c.learn.ensures.cutters) (c.cut-cuts.ensures.hears.stands (heard_on A hearing.ticks) (heard_on B hearing.ticks) st.1),
+)
 
 pub returns-clause-took : goal.returns-clause-took
 unfolding TerminalStands
 returns-clause-took c = λ plan loads hearing st here.
-    let now : Moment = record { shown = c.args.heard; has_items = c.args.may_accept } in
-    let s : Standing = standing LAG plan loads hearing.memory hearing.ticks in
-    subst (λ (n : ℕ). TakenIs c.step.result n (channel_of s (order_now LAG plan (now ∷ hearing.ticks) s)) (taken_by LAG plan loads
-    (length hearing.ticks) now.has_items s (order_now LAG plan (now ∷ hearing.ticks) s)))
-    here (c.step.ensures plan loads hearing.ticks s st here).taken
+    c.learn.ensures.took plan loads hearing (keeps-alike LAG plan loads c.args.self.now c.cut-cuts.new.self hearing c.cut-cuts.ensures.state st.0)
+    (c.cut-cuts.ensures.hears.tells (heard_on A hearing.ticks) (heard_on B hearing.ticks) st.1) here
 
 pub returns-clause-accepted : goal.returns-clause-accepted
 unfolding TerminalStands
 returns-clause-accepted c = λ plan loads hearing st here.
-    (c.step.ensures plan loads hearing.ticks (standing LAG plan loads hearing.memory hearing.ticks) st here).accepted
+    c.learn.ensures.accepted plan loads hearing (keeps-alike LAG plan loads c.args.self.now c.cut-cuts.new.self hearing c.cut-cuts.ensures.state st.0)
+    (c.cut-cuts.ensures.hears.tells (heard_on A hearing.ticks) (heard_on B hearing.ticks) st.1) here

@@ -5,14 +5,14 @@ use Rattle.bus_model.specs.Standing.{Standing, at_rest}
 use Rattle.bus_model.specs.Terminal.{standing}
 use Rattle.bus_terminal.specs.Stands.{StateStands}
 use Rattle.bus_terminal.specs.Shown.{common_of}
-use Rattle.bus_terminal.specs.TerminalStands.{TerminalStands}
+use Rattle.bus_terminal.specs.TerminalStands.{TerminalKeeps}
 use Rattle.bus_terminal.proofs.Quiet.{quiet-stands}
 use Rattle.bus_terminal.proofs.Shows.{state-common}
 use Rattle.bus_terminal.proofs.Loading.{standing-load, common-timed, common-at-once, state-loaded}
 use Rattle.bus_terminal.proofs.terminal.Terminal.load.Goals as goal
 
 pub returns-clause-timed : goal.returns-clause-timed
-unfolding TerminalStands
+unfolding TerminalKeeps
 returns-clause-timed c = λ plan loads memory now past st.
     let load : TimedLoad = record { tick = length past; address = plan.address; sub = c.args.sub; words = c.args.words.now } in
     let s : Standing = standing LAG plan loads memory (now ∷ past) in
@@ -22,7 +22,7 @@ returns-clause-timed c = λ plan loads memory now past st.
     (now ∷ past) s st) refl (omega arith)))
 
 pub returns-clause-at_once : goal.returns-clause-at_once
-unfolding TerminalStands
+unfolding TerminalKeeps
 returns-clause-at_once c = λ plan loads memory st.
     let stands = subst (λ (s : Standing). StateStands LAG plan loads c.args.self.now.state [] s) (quiet-stands LAG plan loads memory 0) st in
     rw (quiet-stands LAG plan loads (load_block memory c.args.sub c.args.words.now) 0, c.load.ensures)

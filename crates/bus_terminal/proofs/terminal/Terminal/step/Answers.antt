@@ -4,11 +4,11 @@ use Rattle.bus_terminal.proofs.terminal.Terminal.step.Goals as goal
 
 pub change-requires : goal.change-requires
 change-requires c =
-    let (terminal, loads, past, s, st, here, small) = c.requires in
+    let (terminal, loads, past, s, st, is, here, small) = c.requires in
     let moment : Moment = record { shown = c.args.heard; has_items = c.args.may_accept } in
-    (terminal, loads, past, moment, s, c.in-Changes.ensures terminal loads past s c.args.may_accept st here, here, small)
+    (terminal, loads, past, moment, s, c.in-Changes.ensures terminal loads past s c.args.may_accept st is here, here, small)
 
-pub returns-in-Changes : goal.returns-in-Changes
-returns-in-Changes c = λ terminal loads past s st here.
+pub returns-in-Changes-clause-next : goal.returns-in-Changes-clause-next
+returns-in-Changes-clause-next c = λ terminal loads past s st is here.
     let moment : Moment = record { shown = c.args.heard; has_items = c.args.may_accept } in
-    c.change.ensures terminal loads past moment s (c.in-Changes.ensures terminal loads past s c.args.may_accept st here) here refl refl
+    c.change.ensures.next terminal loads past moment s (c.in-Changes.ensures terminal loads past s c.args.may_accept st is here) here refl refl

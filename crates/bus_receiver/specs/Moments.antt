@@ -1,13 +1,11 @@
 -- What becomes known with each tick, and for which pasts a receiver stands.
 use Rattle.std.specs.Prelude.{◌≡◌, ℕ, suc, List, ◌∷◌, length}
-use Rattle.bus_base.specs.declared.samples.Channel.{Channel}
 use Rattle.bus_base.specs.declared.samples.Channel.TheVariants.{A, B}
 use Rattle.bus_base.specs.declared.samples.Pair.{Pair}
 use Rattle.bus_line.specs.Channels.{on_channel, quiet_both}
-use Rattle.bus_line.specs.Cutting.{CutterStands, cut_now}
-use Rattle.bus_line.specs.declared.cutter.Cut.{Cut}
-use Rattle.bus_controller.specs.declared.moment.Moment.{Moment}
-use Rattle.bus_controller.specs.declared.moment.Receiver.{Receiver}
+use Rattle.bus_receiver.specs.Cuts.{cuts_now, CuttersStand}
+use Rattle.bus_receiver.specs.declared.receiver.Moment.{Moment}
+use Rattle.bus_receiver.specs.declared.receiver.Receiver.{Receiver}
 
 -- the newest tick of a past
 abbrev pub moment_of : ℕ → Pair → List Pair → Moment
@@ -15,18 +13,13 @@ moment_of k shown past = record {
   tick = record { 0 = length past };
   next = record { 0 = suc (length past) };
   shown = shown;
-  a = cut_now k (on_channel A (shown ∷ past));
-  b = cut_now k (on_channel B (shown ∷ past));
+  cuts = cuts_now k (on_channel A (shown ∷ past)) (on_channel B (shown ∷ past));
+  before = quiet_both past;
   quiet = quiet_both (shown ∷ past);
 }
 
-abbrev pub cut_on : Moment → Channel → Cut
-cut_on m A = m.a
-cut_on m B = m.b
-
 pub record Listens (k : ℕ) (receiver : Receiver) (past : List Pair) : Type 0 where
-  pub a : CutterStands k receiver.a (on_channel A past)
-  pub b : CutterStands k receiver.b (on_channel B past)
+  pub cutters : CuttersStand k receiver.cutters (on_channel A past) (on_channel B past)
   pub next : receiver.next ≡ length past
   pub quiet : receiver.quiet ≡ quiet_both past
 

@@ -1,55 +1,97 @@
-//! What a controller hears of each tick.
+//! What is heard of each tick of a bus.
 ghost use Rattle.std.specs.Prelude.{◌≡◌, ℕ, ◌<◌, ◌^◌, List, [], ◌∷◌, length};
 ghost use Rattle.bus_base.specs.Samples.{sample_on};
 ghost use Rattle.bus_base.specs.declared.samples.Pair.{Pair};
 ghost use Rattle.bus_line.specs.Channels.{quiet_both};
 ghost use Rattle.bus_line.specs.declared.cutter.TheConstants.{LAG};
-ghost use Rattle.bus_controller.specs.Moments.{moment_of, cut_on, ReceiverStands};
+ghost use Rattle.bus_receiver.specs.Cuts.{cut_on, CuttersHear};
+ghost use Rattle.bus_receiver.specs.Moments.{moment_of, ReceiverStands};
 
+use crate::cutters::{Cuts, Cutters};
 use bus_base::{Channel, Pair, Sample, Tick};
-use bus_line::{Cut, Cutter};
+use bus_line::Cut;
 
 /// A tick that was heard: what both channels showed in it, and what became known with it. A receiver alone makes one, so it is that of what was heard.
 #[derive(Clone, Copy)]
 pub struct Moment {
-    /// Its number.
-    pub(crate) tick: Tick,
-    /// The number of the tick to come.
-    pub(crate) next: Tick,
-    /// What the channels showed.
-    pub(crate) shown: Pair,
-    /// What became known of the bursts on A.
-    pub(crate) a: Cut,
-    /// What became known of the bursts on B.
-    pub(crate) b: Cut,
-    /// The ticks in a row up to this one in which both channels were quiet.
-    pub(crate) quiet: u64,
+    tick: Tick,
+    next: Tick,
+    shown: Pair,
+    cuts: Cuts,
+    before: u64,
+    quiet: u64,
 }
 
 impl Moment {
-    /// What became known of the bursts on a channel.
-    pub fn cut(&self, channel: Channel) -> Cut
-        ensures { result ≡ cut_on self.now channel }
+    /// Its number.
+    #[inline(always)]
+    pub fn tick(&self) -> Tick
+        ensures { result ≡ self.now.tick }
     {
-        match channel {
-            Channel::A => self.a,
-            Channel::B => self.b,
-        }
+        self.tick
+    }
+
+    /// The number of the tick to come.
+    #[inline(always)]
+    pub fn next(&self) -> Tick
+        ensures { result ≡ self.now.next }
+    {
+        self.next
+    }
+
+    /// What the channels showed.
+    #[inline(always)]
+    pub fn shown(&self) -> Pair
+        ensures { result ≡ self.now.shown }
+    {
+        self.shown
     }
 
     /// What a channel showed.
+    #[inline(always)]
     pub fn sample(&self, channel: Channel) -> Sample
         ensures { result ≡ sample_on self.now.shown channel }
     {
         self.shown.on(channel)
+    }
+
+    /// What became known of the bursts on both channels.
+    #[inline(always)]
+    pub fn cuts(&self) -> Cuts
+        ensures { result ≡ self.now.cuts }
+    {
+        self.cuts
+    }
+
+    /// What became known of the bursts on a channel.
+    #[inline(always)]
+    pub fn cut(&self, channel: Channel) -> Cut
+        ensures { result ≡ cut_on self.now.cuts channel }
+    {
+        self.cuts.on(channel)
+    }
+
+    /// The ticks in a row before this one in which both channels were quiet.
+    #[inline(always)]
+    pub fn before(&self) -> u64
+        ensures { result ≡ self.now.before }
+    {
+        self.before
+    }
+
+    /// The ticks in a row up to this one in which both channels were quiet.
+    #[inline(always)]
+    pub fn quiet(&self) -> u64
+        ensures { result ≡ self.now.quiet }
+    {
+        self.quiet
     }
 }
 
 /// Listens to both channels.
 #[derive(Drop)]
 pub struct Receiver {
-    a: Cutter,
-    b: Cutter,
+    cutters: Cutters,
     next: u64,
     quiet: u64,
 }
@@ -61,8 +103,7 @@ impl Receiver {
         ensures { ReceiverStands LAG result [] }
     {
         Receiver {
-            a: Cutter::new(),
-            b: Cutter::new(),
+            cutters: Cutters::new(),
             next: 0,
             quiet: 0,
         }
@@ -75,17 +116,18 @@ impl Receiver {
         requires { (past : List Pair) × ReceiverStands LAG self.old past × (now.0 ≡ length past) × (length past < 2 ^ 60) }
         ensures moment { (past : List Pair) → ReceiverStands LAG self.old past → result ≡ moment_of LAG shown past }
         ensures stands { (past : List Pair) → ReceiverStands LAG self.old past → ReceiverStands LAG self.new (shown ∷ past) }
+        ensures hears { CuttersHear LAG self.old.cutters self.new.cutters shown result.cuts }
     {
-        let a = self.a.hear(shown.a);
-        let b = self.b.hear(shown.b);
+        let cuts = self.cutters.hear(shown);
+        let before = self.quiet;
         self.next = now.0 + 1;
-        self.quiet = quiet_after(self.quiet, shown);
+        self.quiet = quiet_after(before, shown);
         Moment {
             tick: now,
             next: Tick(self.next),
             shown,
-            a,
-            b,
+            cuts,
+            before,
             quiet: self.quiet,
         }
     }
