@@ -140,7 +140,7 @@ module _ (w : Scenario) (past : List Pair) (holder : StationData) (begun : Begun
         let parts : on_channel c ((x ∷ ticks) ++ past) ≡ sample_on x c ∷ on_channel c (ticks ++ past) = on-more c x (ticks ++ past) in
         subst (λ xs. 0 < quiet xs) (sym parts) (some-quiet (sample_on x c) (on_channel c (ticks ++ past)) quiet_now)
 
-    all-kept : (ticks : List Pair) → IsFirstOf w.lag c hits words ticks → AreKept begun e past ticks
+    pub all-kept : (ticks : List Pair) → IsFirstOf w.lag c hits words ticks → AreKept begun e past ticks
     all-kept [] first = tt
     all-kept (x ∷ ticks) first = (kept-now x ticks first, all-kept ticks (first-less w.lag c hits words x ticks first))
 

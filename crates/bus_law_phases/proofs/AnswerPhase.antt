@@ -182,8 +182,13 @@ module _ (w : Scenario) (t place : ℕ) (holder : StationData) (part : Part) (bu
       part-ended w now s hits lag moment.spent moment.rests (moment.fresh (other_of c)) some x ticks driven sent whole
       ∙ ap (λ n. Some (record { first = length past; ticks = n; slots = struck hits words })) ticks_are
 
+  quiet-then : quiet_from later ≡ burst_end shows
+  quiet-then =
+      let both = part-quiet w.lag part hits words c (x ∷ ticks) past lag fits some whole.shown quiet in
+      omega (arith, both, known)
+
   shows-whole : ShowsWhole w.lag c (burst_read shows) past x ticks
-  shows-whole = record { alone = alone; ended = ended; known = known }
+  shows-whole = record { alone = alone; ended = ended; known = known; quiet = quiet-then }
 
   -- ---- the one in control
 
@@ -349,11 +354,6 @@ module _ (w : Scenario) (t place : ℕ) (holder : StationData) (part : Part) (bu
       part-passes w t m x (ticks ++ past) (blocks_taken w.lag w.loads shows (map settled afters)) shows
       (attempts_ended w holder tick later_course) 0 sending.passed sending.before
       (ap (λ (tr : Trace). tr.shown) sending.trace) blocks-then bursts-then closes-then sending.counted last
-
-  quiet-then : quiet_from later ≡ burst_end shows
-  quiet-then =
-      let both = part-quiet w.lag part hits words c (x ∷ ticks) past lag fits some whole.shown quiet in
-      omega (arith, both, known)
 
   known-at : t + suc m ≡ burst_end shows + suc w.lag
   known-at = omega (arith, long)

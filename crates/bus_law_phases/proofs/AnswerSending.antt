@@ -89,7 +89,7 @@ listening-takes k t loads memory c heard ticks now small eased leg quiet before 
     (order-none k t u (other_of c) now past (quiet-not-ended k (other_of c) heard ticks now (eased.rests (other_of c)) quiet))
     (ready-running k t s c m.0 now heard ticks ready leg))
 
-listens-takes : (w : Scenario) (past : List Pair) (station : StationData) (c : Channel) → w.lag < 40 →
+pub listens-takes : (w : Scenario) (past : List Pair) (station : StationData) (c : Channel) → w.lag < 40 →
     Listens w.lag station (starts w.plan station) w.loads w.outside past c → (x : Pair) (ticks : List Pair) → RunsAlone w.lag c (x ∷ ticks) →
     ((tick : ℕ) → length past ≤ tick → tick < length past + length (x ∷ ticks) →
     outside_takes w.lag station (starts w.plan station) w.loads w.outside tick w.outside ≡ []) →

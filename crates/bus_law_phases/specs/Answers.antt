@@ -72,6 +72,8 @@ pub record ShowsWhole (k : ℕ) (c : Channel) (burst : Burst) (past : List Pair)
   pub alone : RunsAlone k c ticks
   pub ended : ended_now k (on_channel c (x ∷ (ticks ++ past))) ≡ Some burst
   pub known : length (ticks ++ past) ≡ end_of burst + k
+  -- both channels have been quiet since
+  pub quiet : quiet_from (x ∷ (ticks ++ past)) ≡ end_of burst
 
 -- beside a burst of another station on this channel the station in control sends nothing, and nothing changes of its controller until the end of the
 -- burst is known; then its controller has this course, and control is kept

@@ -15,13 +15,13 @@ use Rattle.bus_model.specs.Strikes.{hits_on, ShownBurst, burst_end, Answer, Show
 use Rattle.bus_law_duties.specs.Duties.{AtMostOneOwes}
 use Rattle.bus_law_duties.proofs.Answering.{only-owed}
 use Rattle.bus_law_stations.specs.Silence.{NothingStarts}
-use Rattle.bus_law_phases.specs.Answers.{IsStatusWithData, AnswerBegins, burst_read, HoldsBeside, AnswerOver, attempts_ended}
+use Rattle.bus_law_phases.specs.Answers.{IsStatusWithData, AnswerBegins, burst_read, HoldsBesideShown, AnswerOver, attempts_ended}
 use Rattle.bus_law_phases.specs.Moments.{DutyLasts, LastsTo}
 use Rattle.bus_law_phases.specs.Passages.{Happening, followed_by}
 use Rattle.bus_law_phases.specs.Scenarios.{Scenario, shown_at, driven_at, commands_in, course_of, NoneTakesFrom}
 use Rattle.bus_law_phases.specs.Silences.{GoesOnTo}
 use Rattle.bus_law_phases.proofs.AnswerBegun.{owed-of}
-use Rattle.bus_law_phases.proofs.AnswerPasses.{answer-passes}
+use Rattle.bus_law_phases.proofs.AnswerPasses.{answer-passes-shown}
 use Rattle.bus_law_phases.proofs.Passing.{joined}
 use Rattle.bus_law_phases.proofs.SilencedItems.{items-answer}
 use Rattle.bus_law_told.proofs.Coming.{Came, came-later, course-later, shown-later, none-later}
@@ -105,11 +105,12 @@ module _ (w : Scenario) (t place : ℕ) (holder : StationData) (c0 : Course) (no
       one = one;
     }
 
-    module _ (later : Course) (beside : HoldsBeside w (shown_at w u) holder burst.channel (burst_read answer.burst) later) where
+    module _ (later : Course) (beside : HoldsBesideShown w (shown_at w u) holder burst.channel answer.hits answer.sent.words
+        (burst_read answer.burst) later) where
       pub answer-over : AnswerOver w u (burst_end answer.burst + suc w.lag) place holder burst afters answer.burst later
       unfolding begins-now
       answer-over =
-          answer-passes w u place holder part burst afters answer later lag accepted (none-later w t u came.passage.later none) begins-now beside
+          answer-passes-shown w u place holder part burst afters answer later lag accepted (none-later w t u came.passage.later none) begins-now beside
 
       pub answered-came : Came w t place holder c0 (burst_end answer.burst + suc w.lag) burst.channel (burst_end answer.burst) Second
           (map (after_answer w.lag w.loads answer.burst) afters) (followed_by h (answer_happens w holder afters answer.burst later))

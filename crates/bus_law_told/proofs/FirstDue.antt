@@ -6,7 +6,7 @@ use Rattle.bus_line.specs.Channels.{on_channel}
 use Rattle.bus_formats.specs.Forms.{answers_of}
 use Rattle.bus_formats.specs.Plans.{StationData}
 use Rattle.bus_formats.specs.declared.form.Shape.{Shape}
-use Rattle.bus_model.specs.Attempts.{Begun}
+use Rattle.bus_model.specs.Attempts.{Begun, is_offer}
 use Rattle.bus_model.specs.Course.{Course}
 use Rattle.bus_model.specs.Message.{Present, After, answer_to}
 use Rattle.bus_model.specs.Starts.{Entry}
@@ -28,7 +28,7 @@ use Rattle.bus_law_told.proofs.Unanswered.{quiet-many, waits-on, waiter-busy}
 module _ (w : Scenario) (t place : ℕ) (holder : StationData) (stations : List Present) (entry : Entry) (b : Begins w t place holder stations entry)
     (shape : Shape) (expects : (answers_of entry.item.kind).first ≡ Some shape) (answer : Answer)
     (found : answer_to (command w t holder stations entry) (ordered w t holder stations entry) ≡ Some answer)
-    (is : IsAnswerTo (command w t holder stations entry) answer) where
+    (is : IsAnswerTo (command w t holder stations entry) (is_offer entry.item.kind) answer) where
   abbrev start : Course
   start = c0 w t holder stations entry
 
@@ -48,7 +48,7 @@ module _ (w : Scenario) (t place : ℕ) (holder : StationData) (stations : List 
   due = answer.start
 
   abbrev before : Happening
-  before = command_happens w t holder stations entry (Some shape)
+  before = command_happens w t place holder stations entry b
 
   since-runs : course_of w holder (shown_at w since) ≡ with_running start opened
   since-runs = ((passed w t place holder stations entry b).waits shape expects).0
@@ -57,37 +57,40 @@ module _ (w : Scenario) (t place : ℕ) (holder : StationData) (stations : List 
   since-waits = ((passed w t place holder stations entry b).waits shape expects).1
 
   came-since : Came w t place holder start since cmd.channel (burst_end cmd) First obeyed before
-  came-since = came-known w t place holder stations entry b (Some shape) expects
+  came-since = came-known w t place holder stations entry b shape expects
 
   late : since ≤ due
-  late = let lag = b.lag in let after = is.after in omega (arith, lag, after)
+  late = let lag = b.began.lag in let after = is.after in omega (arith, lag, after)
 
   in-time : due ≤ burst_end cmd + 20
   in-time = is.before
 
   idle : NothingStarts w.lag (course_of w holder (shown_at w since)) (shown_at w since) (due - since)
   idle =
-      waits-on w t place holder start b.none since (due - since) (burst_end cmd) opened (ap (λ (d : Course). d.runs) since-runs) (inl since-waits)
+      waits-on w t place holder start b.began.none since (due - since) (burst_end cmd) opened (ap (λ (d : Course). d.runs) since-runs) (inl since-waits)
       (omega (arith, late, in-time))
 
   goes : GoesOnTo w (shown_at w since) due
   goes =
-      inl (waiter-busy w t place holder start b.none since cmd.channel (burst_end cmd) First obeyed opened came-since.moment
+      inl (waiter-busy w t place holder start b.began.none since cmd.channel (burst_end cmd) First obeyed opened came-since.moment
       (ap (λ (d : Course). d.runs) since-runs))
 
   pub came-first : Came w t place holder start due cmd.channel (burst_end cmd) First obeyed before
   came-first =
-      came-due w t place holder start b.none b.lag b.accepted since cmd First obeyed before came-since answer found late (omega (arith, in-time)) idle goes
+      came-due w t place holder start b.began.none b.began.lag b.began.accepted since cmd First obeyed before came-since answer found late
+      (omega (arith, in-time)) idle goes
 
   pub course-first : course_of w holder (shown_at w due) ≡ with_running start opened
   course-first =
-      course-due w t place holder start b.none b.lag b.accepted since cmd First obeyed before came-since answer found late (omega (arith, in-time)) idle goes
+      course-due w t place holder start b.began.none b.began.lag b.began.accepted since cmd First obeyed before came-since answer found late
+      (omega (arith, in-time)) idle goes
       ∙ since-runs
 
   pub waits-first : AwaitsFirst w.lag opened (on_channel cmd.channel (shown_at w due)) (burst_end cmd)
   waits-first =
       subst (λ p. AwaitsFirst w.lag opened (on_channel cmd.channel p) (burst_end cmd))
-      (sym (shown-due w t place holder start b.none b.lag b.accepted since cmd First obeyed before came-since answer found late (omega (arith, in-time)) idle
+      (sym (shown-due w t place holder start b.began.none b.began.lag b.began.accepted since cmd First obeyed before came-since answer found late
+      (omega (arith, in-time)) idle
       goes))
       (first-own w.lag opened (shown_at w since) (quiet_pairs (due - since)) (burst_end cmd) (quiet-many opened.state.channel (due - since)) since-waits)
 
@@ -102,5 +105,5 @@ module _ (w : Scenario) (t place : ℕ) (holder : StationData) (stations : List 
 
   pub goes-first : GoesOnTo w (shown_at w due) (suc due)
   goes-first =
-      inl (waiter-busy w t place holder start b.none due cmd.channel (burst_end cmd) First obeyed opened came-first.moment
+      inl (waiter-busy w t place holder start b.began.none due cmd.channel (burst_end cmd) First obeyed opened came-first.moment
       (ap (λ (d : Course). d.runs) course-first))

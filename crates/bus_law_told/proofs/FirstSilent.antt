@@ -8,7 +8,7 @@ use Rattle.bus_formats.specs.Plans.{StationData}
 use Rattle.bus_formats.specs.Times.{no_response}
 use Rattle.bus_formats.specs.declared.form.Outcome.TheVariants.{NoResponse}
 use Rattle.bus_formats.specs.declared.form.Shape.{Shape}
-use Rattle.bus_model.specs.Attempts.{Begun, Ended, without_words}
+use Rattle.bus_model.specs.Attempts.{Begun, Ended, without_words, is_offer}
 use Rattle.bus_model.specs.Course.{Course}
 use Rattle.bus_model.specs.Message.{Present, After, answer_to, after_silence}
 use Rattle.bus_model.specs.Starts.{Entry}
@@ -23,7 +23,7 @@ use Rattle.bus_law_phases.specs.Scenarios.{Scenario, shown_at, driven_at, comman
 use Rattle.bus_law_phases.specs.Silences.{GoesOnTo}
 use Rattle.bus_law_phases.proofs.MuteDuties.{silence-answered}
 use Rattle.bus_law_told.specs.Tables.{MessageIs, first_shown, IsAnswerTo}
-use Rattle.bus_law_told.specs.Told.{message_at, MessageTold}
+use Rattle.bus_law_moments.specs.Told.{message_at, MessageTold}
 use Rattle.bus_law_told.proofs.Coming.{Came}
 use Rattle.bus_law_told.proofs.FirstDue as due
 use Rattle.bus_law_told.proofs.Known.{Begins, c0, begun, command, known, ordered, attempt_begun, command_blocks, command_happens, passed, came-known, numbered, by-number, by-answers, ranged}
@@ -53,7 +53,7 @@ module _ (w : Scenario) (t place : ℕ) (holder : StationData) (stations : List 
   obeyed = ordered w t holder stations entry
 
   abbrev before : Happening
-  before = command_happens w t holder stations entry (Some shape)
+  before = command_happens w t place holder stations entry b
 
   abbrev ended : Ended
   ended = without_words (NoResponse First) None None
@@ -65,19 +65,19 @@ module _ (w : Scenario) (t place : ℕ) (holder : StationData) (stations : List 
       (command_blocks w t holder stations entry) (cmd ∷ []) ((by-answers w t place holder stations entry b).silent shape expects unshown)
 
   -- nobody owes one
-  unowed-told : answer_to cmd obeyed ≡ None → MessageTold w t holder stations entry place
+  unowed-told : answer_to cmd obeyed ≡ None → MessageTold w t holder stations entry place b.ended b.found
   unowed-told silent =
-      let lag = b.lag in
-      no-response-told w t place holder stations entry b shape (known w t holder stations entry) obeyed
-      (came-known w t place holder stations entry b (Some shape) expects) ((passed w t place holder stations entry b).waits shape expects).0
+      let lag = b.began.lag in
+      no-response-told w t place holder stations entry b (known w t holder stations entry) obeyed
+      (came-known w t place holder stations entry b shape expects) ((passed w t place holder stations entry b).waits shape expects).0
       ((passed w t place holder stations entry b).waits shape expects).1 (none-found cmd obeyed silent) (omega (arith, lag)) is-silent
 
   -- it is mute
   module _ (answer : Answer) (found : answer_to cmd obeyed ≡ Some answer) where
-    is-answer : IsAnswerTo cmd answer
+    is-answer : IsAnswerTo cmd (is_offer entry.item.kind) answer
     is-answer =
         first-due w.lag w.loads opened.state.channel t (hits_on w.plan.faults (attempt_begun w t holder stations entry) Command) entry.item
-        b.entry_of.ranges.kind b.plain.1 (loads-fit w.loads b.blocks) stations (ranged w t place holder stations entry b) answer found
+        b.began.entry_of.ranges.kind (loads-fit w.loads b.began.blocks) stations (ranged w t place holder stations entry b) answer found
 
     abbrev u : ℕ
     u = answer.start
@@ -92,15 +92,15 @@ module _ (w : Scenario) (t place : ℕ) (holder : StationData) (stations : List 
     waits-here = due.waits-first w t place holder stations entry b shape expects answer found is-answer
 
     soon : u + suc w.lag ≤ e + no_response
-    soon = let lag = b.lag in let early = is-answer.before in omega (arith, lag, early)
+    soon = let lag = b.began.lag in let early = is-answer.before in omega (arith, lag, early)
 
     idle : NothingStarts w.lag (course_of w holder (shown_at w u)) (shown_at w u) (suc w.lag)
     idle =
-        waits-on w t place holder start b.none u (suc w.lag) e opened (ap (λ (d : Course). d.runs) runs-here) (inl waits-here) soon
+        waits-on w t place holder start b.began.none u (suc w.lag) e opened (ap (λ (d : Course). d.runs) runs-here) (inl waits-here) soon
 
     goes : GoesOnTo w (shown_at w u) (u + suc w.lag)
     goes =
-        inl (waiter-busy w t place holder start b.none u cmd.channel e First obeyed opened here.moment (ap (λ (d : Course). d.runs) runs-here))
+        inl (waiter-busy w t place holder start b.began.none u cmd.channel e First obeyed opened here.moment (ap (λ (d : Course). d.runs) runs-here))
 
     mute-now : shown_answer (hits_on w.plan.faults (suc (commands_in w (driven_at w t))) First) (answer_to cmd obeyed) ≡ None
     mute-now =
@@ -108,24 +108,27 @@ module _ (w : Scenario) (t place : ℕ) (holder : StationData) (stations : List 
 
     later : Came w t place holder start (u + suc w.lag) cmd.channel e First (map answered obeyed) before
     later =
-        muted-came w t place holder start b.none b.lag b.accepted u cmd First obeyed before here answer found refl mute-now refl is-answer.words
+        muted-came w t place holder start b.began.none b.began.lag b.began.accepted u cmd First obeyed before here answer found refl mute-now refl is-answer.words
         (λ c. absurd (cc c)) idle goes
 
-    mute-told : MessageTold w t holder stations entry place
+    mute-told : MessageTold w t holder stations entry place b.ended b.found
     mute-told =
-        no-response-told w t place holder stations entry b shape (u + suc w.lag) (map answered obeyed) later
-        (muted-course w t place holder start b.none b.lag b.accepted u cmd First obeyed before here answer found refl mute-now refl is-answer.words
+        no-response-told w t place holder stations entry b (u + suc w.lag) (map answered obeyed) later
+        (muted-course w t place holder start b.began.none b.began.lag b.began.accepted u cmd First obeyed before here answer found refl mute-now refl
+        is-answer.words
         (λ c. absurd (cc c)) idle goes ∙ runs-here)
         (subst (λ p. AwaitsFirst w.lag opened (on_channel opened.state.channel p) e)
-        (sym (muted-shown w t place holder start b.none b.lag b.accepted u cmd First obeyed before here answer found refl mute-now refl is-answer.words
+        (sym (muted-shown w t place holder start b.began.none b.began.lag b.began.accepted u cmd First obeyed before here answer found refl mute-now refl
+        is-answer.words
         (λ c. absurd (cc c)) idle goes))
         (first-own w.lag opened (shown_at w u) (quiet_pairs (suc w.lag)) e (quiet-many opened.state.channel (suc w.lag)) waits-here))
-        (muted-unowed w t place holder start b.none b.lag b.accepted u cmd First obeyed before here answer found refl mute-now refl is-answer.words
+        (muted-unowed w t place holder start b.began.none b.began.lag b.began.accepted u cmd First obeyed before here answer found refl mute-now refl
+        is-answer.words
         (λ c. absurd (cc c)) idle goes) soon
         (subst (λ afters. MessageIs (message_at w t holder stations entry) ended (e + no_response) afters (command_blocks w t holder stations entry) (cmd ∷ []))
         (sym (silence-answered w.lag w.loads cmd obeyed)) is-silent)
 
-  pub first-silent-told : MessageTold w t holder stations entry place
+  pub first-silent-told : MessageTold w t holder stations entry place b.ended b.found
   first-silent-told = elim (silent-or-mute (hits_on w.plan.faults (attempt_begun w t holder stations entry) First) (answer_to cmd obeyed) unshown) [
     | inl silent ↦ unowed-told silent
     | inr mute ↦ mute-told mute.0 mute.1

@@ -1,22 +1,19 @@
 -- The station in control beside an answer on a channel that is that of its message.
-use Rattle.std.proofs.Common.{◌≡◌, ℕ, ◌<◌, List, ◌∷◌, ◌++◌, Option, Some, None}
+use Rattle.std.proofs.Common.{◌≡◌, ℕ, List, Option, Some}
 use Rattle.bus_base.specs.declared.samples.Channel.{Channel}
 use Rattle.bus_base.specs.declared.samples.Pair.{Pair}
 use Rattle.bus_base.specs.declared.samples.Part.TheVariants as parts
 use Rattle.bus_line.specs.Channels.{on_channel}
-use Rattle.bus_line.specs.Past.{Burst, end_of}
-use Rattle.bus_formats.specs.Forms.{answers_of}
+use Rattle.bus_line.specs.Past.{Burst}
 use Rattle.bus_formats.specs.Plans.{StationData}
 use Rattle.bus_formats.specs.declared.form.Outcome.{Outcome}
 use Rattle.bus_formats.specs.declared.form.Outcome.TheVariants.{Clear}
 use Rattle.bus_formats.specs.declared.form.Reading.TheVariants.{Good, Ends}
-use Rattle.bus_formats.specs.declared.form.Shape.{Shape}
-use Rattle.bus_model.specs.Attempts.{Begun, Ended, without_words, kept_words}
-use Rattle.bus_law_stations.specs.Silence.{AwaitsFirst, AwaitsSecond}
-use Rattle.bus_law_phases.specs.Answers.{ShowsWhole, HoldsBeside}
-use Rattle.bus_law_phases.specs.Scenarios.{Scenario, course_of}
+use Rattle.bus_model.specs.Attempts.{Begun, Ended, without_words}
+use Rattle.bus_law_stations.specs.Silence.{AwaitsSecond}
+use Rattle.bus_law_phases.specs.Answers.{HoldsBeside}
+use Rattle.bus_law_phases.specs.Scenarios.{Scenario}
 use Rattle.bus_law_told.specs.Holders.{answer_read, IsAnsweredInTime, closed_with}
-use Rattle.bus_law_told.specs.Plain.{IsPlainItem}
 use Rattle.bus_law_told.proofs.HoldersBeside as own
 use Rattle.bus_law_told.proofs.HoldersBeside.{on-own}
 
@@ -25,38 +22,6 @@ module _ (w : Scenario) (past : List Pair) (holder : StationData) (c : Channel) 
   -- how its message ends, with the tick in which the end of the answer is known
   abbrev ClosesOn : Channel → Ended → Type 0
   ClosesOn d ended = HoldsBeside w past holder d burst (closed_with w past holder d begun burst ended)
-
-  -- the first answer ends the message
-  pub first-ends : AwaitsFirst w.lag begun (on_channel c past) e → IsPlainItem begun.entry.item → (outcome : Outcome) (status : Option ℕ) →
-      answer_read begun parts.First burst ≡ Ends outcome status →
-      HoldsBeside w past holder c burst (closed_with w past holder c begun burst (without_words outcome status None))
-  first-ends waits plain outcome status reads =
-      on-own w past holder begun e (λ d. AwaitsFirst w.lag begun (on_channel d past) e → ClosesOn d (without_words outcome status None)) c so
-      (λ here awaits. own.first-ends w past holder begun e here awaits plain burst outcome status reads) waits
-
-  -- so does a good one, where no second one is expected
-  pub first-clear : AwaitsFirst w.lag begun (on_channel c past) e → IsPlainItem begun.entry.item → (status : ℕ) →
-      answer_read begun parts.First burst ≡ Good status → (answers_of begun.entry.item.kind).second ≡ None →
-      HoldsBeside w past holder c burst (closed_with w past holder c begun burst (record (without_words Clear (Some status) None) {
-        words = kept_words begun.entry.item.kind burst.slots;
-      }))
-  first-clear waits plain status reads alone =
-      on-own w past holder begun e (λ d. AwaitsFirst w.lag begun (on_channel d past) e →
-      ClosesOn d (record (without_words Clear (Some status) None) { words = kept_words begun.entry.item.kind burst.slots })) c so
-      (λ here awaits. own.first-clear w past holder begun e here awaits plain burst status reads alone) waits
-
-  -- after a relay's good first one the second one is awaited
-  pub first-relayed : w.lag < 24 → AwaitsFirst w.lag begun (on_channel c past) e → IsPlainItem begun.entry.item → (status : ℕ) (shape : Shape) →
-      answer_read begun parts.First burst ≡ Good status → (answers_of begun.entry.item.kind).second ≡ Some shape →
-      HoldsBeside w past holder c burst (course_of w holder past)
-      × ((x : Pair) (ticks : List Pair) → ShowsWhole w.lag c burst past x ticks →
-      (later : AwaitsSecond w.lag begun (on_channel c (x ∷ (ticks ++ past))) (end_of burst)) × (later.status ≡ status))
-  first-relayed small waits plain status shape reads next =
-      on-own w past holder begun e (λ d. AwaitsFirst w.lag begun (on_channel d past) e →
-      HoldsBeside w past holder d burst (course_of w holder past)
-      × ((x : Pair) (ticks : List Pair) → ShowsWhole w.lag d burst past x ticks →
-      (later : AwaitsSecond w.lag begun (on_channel d (x ∷ (ticks ++ past))) (end_of burst)) × (later.status ≡ status))) c so
-      (λ here awaits. own.first-relayed w past holder begun e here awaits plain burst small status shape reads next) waits
 
   -- the second answer ends the message
   pub second-ends : (waits : AwaitsSecond w.lag begun (on_channel c past) e) (outcome : Outcome) (second : Option ℕ) →

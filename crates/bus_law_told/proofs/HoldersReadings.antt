@@ -107,6 +107,10 @@ second-of (Relay from from_sub to to_sub count) slots rest =
     shape-keeps parts.Second (Relay from from_sub to to_sub count) (answers_of (Relay from from_sub to to_sub count)).second slots rest refl
 second-of (Mode to mode_sub transmit code word) slots rest = bad-ends parts.Second
 
+pub second-ends-so : (kind : Kind) (slots : List (Option Word)) (rest : ℕ) (outcome : Outcome) (status : Option ℕ) →
+    read_answer kind parts.Second slots rest ≡ Ends outcome status → EndsBadly outcome
+second-ends-so kind slots rest outcome status reads = subst Keeps reads (second-of kind slots rest)
+
 pub second-keeps : (kind : Kind) (slots : List (Option Word)) (rest : ℕ) (outcome : Outcome) (status : Option ℕ) →
     read_answer kind parts.Second slots rest ≡ Ends outcome status → gives outcome ≡ false
-second-keeps kind slots rest outcome status reads = (subst Keeps reads (second-of kind slots rest)).keeps
+second-keeps kind slots rest outcome status reads = (second-ends-so kind slots rest outcome status reads).keeps

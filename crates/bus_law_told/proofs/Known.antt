@@ -1,50 +1,44 @@
--- A message up to the tick after that in which the end of its command is known.
-use Rattle.std.proofs.Common.{◌≡◌, ℕ, suc, ◌+◌, List, [], ◌∷◌, map, Option, None, refl, subst, arith}
+-- A message that began, up to the tick after that in which the end of its command is known.
+use Rattle.std.proofs.Common.{◌≡◌, ◌⊎◌, ℕ, suc, ◌+◌, false, List, [], ◌∷◌, ◌++◌, Option, Some, None, refl, sym, ap, ◌∙◌, subst, arith}
+use Rattle.std.proofs.lemmas.List.{append-nil}
 use Rattle.bus_base.specs.declared.samples.Part.TheVariants.{Command, First}
 use Rattle.std.specs.List.{AllByRecursion as Each}
-use Rattle.bus_formats.specs.Accepted.{IsAccepted}
+use Rattle.std.specs.Prelude.{map}
 use Rattle.bus_formats.specs.Forms.{answers_of}
 use Rattle.bus_formats.specs.Plans.{StationData}
 use Rattle.bus_formats.specs.declared.form.Outcome.TheVariants.{Sent}
 use Rattle.bus_formats.specs.declared.form.Shape.{Shape}
-use Rattle.bus_model.specs.Attempts.{Begun, Ended, without_words}
+use Rattle.bus_formats.specs.declared.log.Attempt.{Attempt}
+use Rattle.bus_model.specs.Attempts.{Begun, Ended, without_words, is_offer}
 use Rattle.bus_model.specs.Course.{Course}
 use Rattle.bus_model.specs.Message.{Present, After, Delivered, after_command, blocks_taken}
+use Rattle.bus_model.specs.Run.{quiet_after}
 use Rattle.bus_model.specs.Starts.{Entry}
-use Rattle.bus_model.specs.Strikes.{hits_on, ShownBurst, burst_end}
-use Rattle.bus_law_duties.specs.Duties.{AreApart}
+use Rattle.bus_model.specs.Strikes.{hits_on, ShownBurst, burst_end, ShownAnswer}
 use Rattle.bus_law_duties.proofs.OneOwes.{none-owes}
 use Rattle.bus_law_line.specs.Senders.{attempt_to_come}
-use Rattle.bus_law_plans.specs.Entries.{IsEntryOf}
-use Rattle.bus_law_plans.specs.Memories.{AreBlocks, HasWordRanges}
-use Rattle.bus_law_stations.specs.Messages.{BeginsMessage}
-use Rattle.bus_law_phases.specs.Commands.{begun_at, command_at, command_known, ended_with_command, CommandPasses}
+use Rattle.bus_law_phases.specs.Commands.{begun_at, command_at, command_known, ended_with_command}
 use Rattle.bus_law_phases.specs.Passages.{Happening, Passage}
-use Rattle.bus_law_phases.specs.Rests.{Rested}
-use Rattle.bus_law_phases.specs.Scenarios.{Scenario, trace_at, shown_at, driven_at, commands_in, course_of, NoneTakesFrom}
-use Rattle.bus_law_phases.proofs.CommandPhase.{command-passes}
-use Rattle.bus_law_phases.proofs.SilencedItems.{items-first, items-command}
-use Rattle.bus_law_told.specs.Plain.{IsPlainItem}
-use Rattle.bus_law_told.specs.Tables.{MessageIs, this_message, IsToldByAnswers, IsRanged}
-use Rattle.bus_law_told.specs.Told.{message_at, MessageTold}
+use Rattle.bus_law_phases.specs.Scenarios.{Scenario, shown_at, driven_at, commands_in, course_of}
+use Rattle.bus_law_moments.specs.Begun.{IsRanged, CommandKnown, MessageBegan}
+use Rattle.bus_law_moments.specs.Told.{message_at, MessageTold}
+use Rattle.bus_law_told.specs.Tables.{MessageIs, this_message, first_shown, IsHeardOut, IsToldByAnswers}
+use Rattle.bus_law_told.specs.Told.{Refuses, answer_shown, IsNotAbandoned}
 use Rattle.bus_law_told.proofs.TablesTold.{told-by-answers}
-use Rattle.bus_law_told.proofs.TablesShown.{stations-ranged}
-use Rattle.bus_law_told.proofs.TablesQuiet.{quiet-one}
 use Rattle.bus_law_told.proofs.Coming.{Came}
 use Rattle.bus_law_told.proofs.Ending.{told}
 
--- the premises under which a message is told: it begins in tick t, between two messages
+-- a message began in tick t: before its command was known these attempts of others ended, and these bursts were found
 pub record Begins (w : Scenario) (t place : ℕ) (holder : StationData) (stations : List Present) (entry : Entry) : Type 0 where
-  pub lag : w.lag ≡ 3
-  pub accepted : IsAccepted w.plan
-  pub entry_of : IsEntryOf w.plan holder.terminal.address entry
-  pub plain : IsPlainItem entry.item
-  pub rested : Rested w (trace_at w t) place holder stations
-  pub starts : BeginsMessage (course_of w holder (shown_at w t)) (shown_at w t) entry
-  pub none : NoneTakesFrom w t
-  pub apart : AreApart stations
-  pub words : Each HasWordRanges stations
-  pub blocks : AreBlocks w.loads
+  pub ended : List Attempt
+  pub found : List ShownBurst
+  pub began : MessageBegan w t holder entry place stations ended found
+
+-- the premises under which it is told: its first answer gives no control away, and it isn't abandoned
+pub record BeginsKept (w : Scenario) (t place : ℕ) (holder : StationData) (stations : List Present) (entry : Entry) : Type 0 where
+  pub base : Begins w t place holder stations entry
+  pub keeps : (first : ShownAnswer) → answer_shown w t holder stations entry ≡ Some first → (is_offer entry.item.kind ≡ false) ⊎ Refuses entry.item.kind first
+  pub stays : IsNotAbandoned w t holder stations entry
 
 module _ (w : Scenario) (t : ℕ) (holder : StationData) (stations : List Present) (entry : Entry) where
   abbrev pub c0 : Course
@@ -70,15 +64,6 @@ module _ (w : Scenario) (t : ℕ) (holder : StationData) (stations : List Presen
   abbrev pub command_blocks : List Delivered
   command_blocks = blocks_taken w.lag w.loads command ordered
 
-  -- what happened with the command of a message that is answered, or isn't
-  abbrev pub command_happens : Option Shape → Happening
-  command_happens shape = record {
-    blocks = command_blocks;
-    bursts = command ∷ [];
-    attempts = ended_with_command holder.terminal.address begun (burst_end command + w.lag) shape;
-    commands = 1;
-  }
-
 module _ (w : Scenario) (t place : ℕ) (holder : StationData) (stations : List Present) (entry : Entry)
     (b : Begins w t place holder stations entry) where
   abbrev pub start_course : Course
@@ -93,18 +78,33 @@ module _ (w : Scenario) (t place : ℕ) (holder : StationData) (stations : List 
   abbrev pub obeyed : List After
   obeyed = ordered w t holder stations entry
 
-  pub passed : CommandPasses w t t holder entry place stations
-  passed = command-passes w t place holder stations entry b.lag b.accepted b.entry_of.ranges b.rested b.starts b.none b.apart
+  abbrev pub passed : CommandKnown w t holder entry place stations b.ended b.found
+  passed = b.began.known
 
-  pub came-known : (shape : Option Shape) → (answers_of entry.item.kind).first ≡ shape →
+  -- what happened until the command of a message was known that is answered
+  abbrev pub command_happens : Happening
+  command_happens = record { blocks = command_blocks w t holder stations entry; bursts = b.found; attempts = b.ended; commands = 1 }
+
+  -- .. or isn't
+  abbrev pub sent_happens : List ShownBurst → List Attempt → Happening
+  sent_happens bursts attempts = record { blocks = command_blocks w t holder stations entry; bursts = bursts; attempts = attempts; commands = 1 }
+
+  came-with : (shape : Option Shape) → (answers_of entry.item.kind).first ≡ shape →
       Came w t place holder start_course (known w t holder stations entry) cmd.channel (burst_end cmd) First obeyed
-      (command_happens w t holder stations entry shape)
-  came-known shape expects = record {
-    moment = passed.moment;
-    passage = subst (λ s. Passage w t (known w t holder stations entry) (command_happens w t holder stations entry s)) expects passed.passage;
-    quiet = passed.quiet;
-    items = items-command holder start_course w.lag w.loads cmd stations (items-first w (trace_at w t) place holder stations b.rested);
+      (sent_happens b.found (b.ended ++ ended_with_command holder.terminal.address message_begins (burst_end cmd + w.lag) shape))
+  came-with shape expects = record {
+    moment = b.began.known.moment;
+    passage = subst (λ s. Passage w t (known w t holder stations entry)
+        (sent_happens b.found (b.ended ++ ended_with_command holder.terminal.address message_begins (burst_end cmd + w.lag) s))) expects b.began.known.passage;
+    quiet = b.began.known.quiet;
+    items = b.began.known.items;
   }
+
+  pub came-known : (shape : Shape) → (answers_of entry.item.kind).first ≡ Some shape →
+      Came w t place holder start_course (known w t holder stations entry) cmd.channel (burst_end cmd) First obeyed command_happens
+  came-known shape expects =
+      subst (λ atts. Came w t place holder start_course (known w t holder stations entry) cmd.channel (burst_end cmd) First obeyed (sent_happens b.found atts))
+      (append-nil b.ended) (came-with (Some shape) expects)
 
   -- commands are counted as attempts are
   pub numbered : attempt_begun w t holder stations entry ≡ suc (commands_in w (driven_at w t))
@@ -118,23 +118,49 @@ module _ (w : Scenario) (t place : ℕ) (holder : StationData) (stations : List 
       subst (λ n. MessageIs (this_message w.lag w.loads w.plan.faults n entry.item message_begins.state.channel t stations) ended tick afters blocks bursts)
       numbered is
 
+  -- what is shown of its first answer
+  abbrev pub first_answer : ℕ → Option ShownAnswer
+  first_answer n = first_shown w.lag w.loads w.plan.faults n entry.item message_begins.state.channel t stations
+
   -- it is what its answers make of it
   pub by-answers : IsToldByAnswers w.lag w.loads w.plan.faults (attempt_begun w t holder stations entry) entry.item message_begins.state.channel t stations
   by-answers =
       told-by-answers w.lag w.loads w.plan.faults (attempt_begun w t holder stations entry) entry.item message_begins.state.channel t stations
-      b.entry_of.ranges.kind b.plain.0 b.plain.1
+      b.began.entry_of.ranges.kind
 
   pub ranged : Each IsRanged stations
-  ranged =
-      stations-ranged w.lag w.plan w.loads w.outside w.absent (shown_at w t) stations b.accepted b.rested.are b.words
+  ranged = b.began.ranged
 
   -- the message expects no answer
-  pub sent-told : (answers_of entry.item.kind).first ≡ None → MessageTold w t holder stations entry place
+  pub sent-told : (answers_of entry.item.kind).first ≡ None → MessageTold w t holder stations entry place b.ended b.found
   sent-told expects =
-      let lag = b.lag in
-      told w t place holder stations entry b.accepted (known w t holder stations entry) cmd.channel (burst_end cmd) First obeyed
-      (command_blocks w t holder stations entry) (cmd ∷ []) (without_words Sent None None) (burst_end cmd + w.lag) (came-known None expects)
+      let lag = b.began.lag in
+      told w t place holder stations entry b.began.accepted b.ended b.found (known w t holder stations entry) cmd.channel (burst_end cmd) First obeyed
+      (command_blocks w t holder stations entry) [] (without_words Sent None None) (burst_end cmd + w.lag)
+      (subst (λ bs. Came w t place holder start_course (known w t holder stations entry) cmd.channel (burst_end cmd) First obeyed
+      (sent_happens bs (b.ended ++ ended_with_command holder.terminal.address message_begins (burst_end cmd + w.lag) None))) (sym (append-nil b.found))
+      (came-with None expects))
       (none-owes w.lag w.loads message_begins.state.channel t (hits_on w.plan.faults (attempt_begun w t holder stations entry) Command) entry.item stations
-      b.entry_of.ranges.kind expects) (passed.sent expects) b.starts.holds
+      b.began.entry_of.ranges.kind expects) (b.began.known.sent expects) b.began.held
       (by-number (without_words Sent None None) (burst_end cmd + w.lag) obeyed (command_blocks w t holder stations entry) (cmd ∷ []) (by-answers.sent expects))
-      (quiet-one cmd) (omega (arith, lag)) (omega (arith, lag)) (omega arith) record { keeps = refl; opens = refl }
+      (ap quiet_after (append-nil b.found) ∙ b.began.known.last) (omega (arith, lag)) (omega (arith, lag)) record { keeps = refl; opens = refl }
+
+module _ (w : Scenario) (t place : ℕ) (holder : StationData) (stations : List Present) (entry : Entry)
+    (b : BeginsKept w t place holder stations entry) where
+  abbrev attempt : ℕ
+  attempt = attempt_begun w t holder stations entry
+
+  abbrev answer_by : ℕ → Option ShownAnswer
+  answer_by n = first_answer w t place holder stations entry b.base n
+
+  same-number : attempt ≡ suc (commands_in w (driven_at w t))
+  same-number = numbered w t place holder stations entry b.base
+
+  -- the message offers no control, or its answer refuses the offer
+  pub control-kept : (first : ShownAnswer) → answer_by attempt ≡ Some first → (is_offer entry.item.kind ≡ false) ⊎ Refuses entry.item.kind first
+  control-kept first shows = b.keeps first (ap answer_by (sym same-number) ∙ shows)
+
+  -- and it isn't abandoned
+  pub heard-out : (first : ShownAnswer) → answer_by attempt ≡ Some first →
+      IsHeardOut w.lag w.loads w.plan.faults attempt entry.item (begun w t holder stations entry).state.channel t stations first
+  heard-out first shows = b.stays first (ap answer_by (sym same-number) ∙ shows)

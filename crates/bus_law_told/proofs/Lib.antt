@@ -2,6 +2,7 @@ pub mod HoldersReadings
 pub mod HoldersBeside
 pub mod HoldersAnywhere
 pub mod HoldersClosed
+pub mod Refusals
 pub mod Coming
 pub mod Ending
 pub mod Known
@@ -10,6 +11,7 @@ pub mod Answered
 pub mod NoResponse
 pub mod Muted
 pub mod FirstDue
+pub mod FirstShown
 pub mod FirstAnswer
 pub mod FirstSilent
 pub mod FirstClosed

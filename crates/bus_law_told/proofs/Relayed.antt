@@ -12,7 +12,7 @@ use Rattle.bus_formats.specs.Times.{no_response, relay_wait}
 use Rattle.bus_formats.specs.declared.form.Outcome.TheVariants.{NoResponse}
 use Rattle.bus_formats.specs.declared.form.Reading.TheVariants.{Good}
 use Rattle.bus_formats.specs.declared.form.Shape.{Shape}
-use Rattle.bus_model.specs.Attempts.{Begun, Ended, without_words}
+use Rattle.bus_model.specs.Attempts.{Begun, Ended, without_words, is_offer}
 use Rattle.bus_model.specs.Course.{Course}
 use Rattle.bus_model.specs.Message.{Present, After, Delivered, after_silence}
 use Rattle.bus_model.specs.Standing.{is_owed}
@@ -22,22 +22,22 @@ use Rattle.bus_law_control.proofs.OwnChannel.{second-own}
 use Rattle.bus_law_messages.proofs.Sending.{shown-long}
 use Rattle.bus_law_stations.specs.Messages.{with_running}
 use Rattle.bus_law_stations.specs.Silence.{AwaitsSecond}
-use Rattle.bus_law_phases.specs.Answers.{burst_read, HoldsBeside, ShowsWhole, AnswerOver}
+use Rattle.bus_law_phases.specs.Answers.{burst_read, HoldsBesideShown, ShowsWhole, AnswerOver}
 use Rattle.bus_law_phases.specs.Commands.{attempt_recorded}
 use Rattle.bus_law_phases.specs.Passages.{Happening}
 use Rattle.bus_law_phases.specs.Scenarios.{Scenario, shown_at, course_of}
 use Rattle.bus_law_phases.proofs.AnswerHolders.{no-attempts}
+use Rattle.bus_law_phases.proofs.AnswerKept.{kept-relayed}
 use Rattle.bus_law_told.specs.Tables.{MessageIs, first_shown, IsShownTo}
-use Rattle.bus_law_told.specs.Told.{message_at, MessageTold}
+use Rattle.bus_law_moments.specs.Told.{message_at, MessageTold}
 use Rattle.bus_law_told.proofs.Coming.{Came}
 use Rattle.bus_law_told.proofs.Ending.{told}
-use Rattle.bus_law_told.proofs.FirstAnswer.{shown-so, found, over-first, came-after-first}
+use Rattle.bus_law_told.proofs.FirstShown.{shown-so, found, begins-first, over-first, came-after-first, waits-due, may-abandon, read-alike}
+use Rattle.bus_law_told.proofs.FirstAnswer.{stays, declines}
 use Rattle.bus_law_told.proofs.FirstClosed.{settled_now, blocks_now, after-command}
 use Rattle.bus_law_told.proofs.FirstDue as due
-use Rattle.bus_law_told.proofs.FirstEnds.{waits-due, in-time-due, read-alike}
-use Rattle.bus_law_told.proofs.HoldersAnywhere.{first-relayed}
-use Rattle.bus_law_told.proofs.Known.{Begins, c0, begun, command, ordered, attempt_begun}
-use Rattle.bus_law_told.proofs.TablesQuiet.{quiet-two}
+use Rattle.bus_law_told.proofs.Known.{BeginsKept, c0, begun, command, ordered, attempt_begun}
+use Rattle.bus_law_told.proofs.TablesQuiet.{quiet-more}
 use Rattle.bus_law_told.proofs.Unanswered.{quiet-many, unanswered-came, unanswered-free, unanswered-course}
 
 -- a second answer is awaited, after a first one with this status
@@ -51,7 +51,7 @@ pub after-silence : (w : Scenario) (past : List Pair) (begun : Begun) (e status 
 after-silence w past begun e status n awaits =
     let later = second-own w.lag begun past (quiet_pairs n) e (quiet-many begun.state.channel n) awaits.0 in (later.0, later.1 ∙ awaits.1)
 
-module _ (w : Scenario) (t place : ℕ) (holder : StationData) (stations : List Present) (entry : Entry) (b : Begins w t place holder stations entry)
+module _ (w : Scenario) (t place : ℕ) (holder : StationData) (stations : List Present) (entry : Entry) (b : BeginsKept w t place holder stations entry)
     (shape : Shape) (expects : (answers_of entry.item.kind).first ≡ Some shape) (first : ShownAnswer)
     (shows : first_shown w.lag w.loads w.plan.faults (attempt_begun w t holder stations entry) entry.item (begun w t holder stations entry).state.channel t
     stations ≡ Some first) (other : Shape) (nexts : (answers_of entry.item.kind).second ≡ Some other) (status : ℕ)
@@ -80,25 +80,26 @@ module _ (w : Scenario) (t place : ℕ) (holder : StationData) (stations : List 
   abbrev blocks : List Delivered
   blocks = blocks_now w t place holder stations entry b shape expects first shows
 
-  pub so : IsShownTo cmd first
-  so = shown-so w t place holder stations entry b shape expects first shows
+  pub so : IsShownTo cmd (is_offer entry.item.kind) first
+  so = shown-so w t place holder stations entry b.base shape expects first shows
 
-  relayed : HoldsBeside w (shown_at w d) holder cmd.channel (burst_read first.burst) (course_of w holder (shown_at w d))
+  relayed : HoldsBesideShown w (shown_at w d) holder cmd.channel first.hits first.sent.words (burst_read first.burst) (course_of w holder (shown_at w d))
       × ((now : Pair) (ticks : List Pair) → ShowsWhole w.lag cmd.channel (burst_read first.burst) (shown_at w d) now ticks →
       AwaitsAfter w (now ∷ (ticks ++ shown_at w d)) opened x status)
   relayed =
-      let lag = b.lag in
-      first-relayed w (shown_at w d) holder cmd.channel opened (burst_end cmd) (burst_read first.burst)
-      (in-time-due w t place holder stations entry b shape expects first shows) (omega (arith, lag))
-      (waits-due w t place holder stations entry b shape expects first shows) b.plain status other
-      (read-alike w t place holder stations entry b shape expects first shows (Good status) reading) nexts
+      let lag = b.base.began.lag in
+      kept-relayed w (shown_at w d) holder opened (burst_end cmd) First first (may-abandon w t place holder stations entry b.base shape expects first shows)
+      (begins-first w t place holder stations entry b.base shape expects first shows) (stays w t place holder stations entry b shape expects first shows)
+      (waits-due w t place holder stations entry b.base shape expects first shows) other status (omega (arith, lag))
+      (read-alike w t place holder stations entry b.base shape expects first shows (Good status) reading) nexts
 
   over : AnswerOver w d u place holder cmd (ordered w t holder stations entry) first.burst (course_of w holder (shown_at w d))
-  over = over-first w t place holder stations entry b shape expects first shows (course_of w holder (shown_at w d)) relayed.0
+  over = over-first w t place holder stations entry b.base shape expects first shows
+      (declines w t place holder stations entry b shape expects first shows) (course_of w holder (shown_at w d)) relayed.0
 
   -- what happened so far
   abbrev pub relay_happens : Happening
-  relay_happens = record { blocks = blocks; bursts = cmd ∷ first.burst ∷ []; attempts = []; commands = 1 }
+  relay_happens = record { blocks = blocks; bursts = b.base.found ++ first.burst ∷ []; attempts = b.base.ended; commands = 1 }
 
   pub came-relayed : Came w t place holder start u first.burst.channel x Second settled relay_happens
   came-relayed =
@@ -107,16 +108,18 @@ module _ (w : Scenario) (t place : ℕ) (holder : StationData) (stations : List 
       subst (λ c. Came w t place holder start u c x Second settled relay_happens) (sym so.channel)
       (subst (λ atts. Came w t place holder start u cmd.channel x Second settled record {
         blocks = blocks;
-        bursts = cmd ∷ first.burst ∷ [];
+        bursts = b.base.found ++ first.burst ∷ [];
         attempts = atts;
         commands = 1;
-      }) (no-attempts w holder (shown_at w d) (x + w.lag) (omega (arith, many, same)))
-      (came-after-first w t place holder stations entry b shape expects first shows (course_of w holder (shown_at w d)) relayed.0))
+      }) (ap (λ atts. b.base.ended ++ atts) (no-attempts w holder (shown_at w d) (x + w.lag) (omega (arith, many, same))) ∙ append-nil b.base.ended)
+      (came-after-first w t place holder stations entry b.base shape expects first shows
+      (declines w t place holder stations entry b shape expects first shows) (course_of w holder (shown_at w d)) relayed.0))
 
   pub course-relayed : course_of w holder (shown_at w u) ≡ with_running start opened
   course-relayed =
       over.course
-      ∙ due.course-first w t place holder stations entry b shape expects first.sent (found w t place holder stations entry b shape expects first shows) so.sent
+      ∙ due.course-first w t place holder stations entry b.base shape expects first.sent (found w t place holder stations entry b.base shape expects first
+      shows) so.sent
 
   pub awaits-relayed : AwaitsAfter w (shown_at w u) opened x status
   awaits-relayed = subst (λ p. AwaitsAfter w p opened x status) (sym over.shown) (relayed.1 over.newest over.ticks over.whole)
@@ -132,30 +135,32 @@ module _ (w : Scenario) (t place : ℕ) (holder : StationData) (stations : List 
     abbrev then_settled : List After
     then_settled = map (after_silence w.lag w.loads first.burst) afters
 
-    came-then : Came w t place holder start (suc (x + relay_wait)) first.burst.channel x Second then_settled record {
-      blocks = blocks;
-      bursts = cmd ∷ first.burst ∷ [];
-      attempts = attempt_recorded holder.terminal.address opened ended (x + no_response) ∷ [];
+    -- by now, with these blocks and bursts
+    abbrev CameWith : List Delivered → List ShownBurst → Type 0
+    CameWith taken bursts = Came w t place holder start (suc (x + relay_wait)) first.burst.channel x Second then_settled record {
+      blocks = taken;
+      bursts = bursts;
+      attempts = b.base.ended ++ attempt_recorded holder.terminal.address opened ended (x + no_response) ∷ [];
       commands = 1;
     }
+
+    came-then : CameWith blocks (b.base.found ++ first.burst ∷ [])
     came-then =
-        subst (λ bs. Came w t place holder start (suc (x + relay_wait)) first.burst.channel x Second then_settled record {
-          blocks = bs;
-          bursts = cmd ∷ first.burst ∷ [];
-          attempts = attempt_recorded holder.terminal.address opened ended (x + no_response) ∷ [];
-          commands = 1;
-        }) (append-nil blocks)
-        (unanswered-came w t place holder start b.none v first.burst Second afters relay_happens opened came runs (inr awaits.0) unowed soon ended
-        (ap (λ st. without_words (NoResponse Second) (Some st) None) awaits.1) refl (omega arith))
+        subst (λ bs. CameWith bs (b.base.found ++ first.burst ∷ [])) (append-nil blocks)
+        (subst (CameWith (blocks ++ [])) (append-nil (b.base.found ++ first.burst ∷ []))
+        (unanswered-came w t place holder start b.base.began.none v first.burst Second afters relay_happens opened came runs (inr awaits.0) unowed soon ended
+        (ap (λ st. without_words (NoResponse Second) (Some st) None) awaits.1) refl (omega arith)))
 
     pub no-second-told : MessageIs (message_at w t holder stations entry) ended (x + no_response) then_settled blocks (cmd ∷ first.burst ∷ []) →
-        MessageTold w t holder stations entry place
+        MessageTold w t holder stations entry place b.base.ended b.base.found
     no-second-told is =
         let follows : burst_end cmd ≤ first.burst.start = after-command w t place holder stations entry b shape expects first shows in
-        told w t place holder stations entry b.accepted (suc (x + relay_wait)) first.burst.channel x Second then_settled blocks (cmd ∷ first.burst ∷ [])
+        told w t place holder stations entry b.base.began.accepted b.base.ended b.base.found (suc (x + relay_wait)) first.burst.channel x Second then_settled
+        blocks (first.burst ∷ [])
         ended (x + no_response) came-then
-        (unanswered-free w t place holder start b.none v first.burst Second afters relay_happens opened came runs (inr awaits.0) unowed soon ended
+        (unanswered-free w t place holder start b.base.began.none v first.burst Second afters relay_happens opened came runs (inr awaits.0) unowed soon ended
         (ap (λ st. without_words (NoResponse Second) (Some st) None) awaits.1) refl (omega arith))
-        (unanswered-course w t place holder start b.none v first.burst Second afters relay_happens opened came runs (inr awaits.0) unowed soon ended
-        (ap (λ st. without_words (NoResponse Second) (Some st) None) awaits.1) refl (omega arith)) b.starts.holds is (quiet-two cmd first.burst follows)
-        (omega (arith, follows)) (omega arith) (omega arith) record { keeps = refl; opens = refl }
+        (unanswered-course w t place holder start b.base.began.none v first.burst Second afters relay_happens opened came runs (inr awaits.0) unowed soon ended
+        (ap (λ st. without_words (NoResponse Second) (Some st) None) awaits.1) refl (omega arith)) b.base.began.held is
+        (quiet-more b.base.found (burst_end cmd) first.burst b.base.began.known.last follows)
+        (omega (arith, follows)) (omega arith) record { keeps = refl; opens = refl }

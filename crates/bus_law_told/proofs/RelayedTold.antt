@@ -1,5 +1,5 @@
 -- A relay whose first answer is good is told: its second answer is good, or ends it, or isn't shown.
-use Rattle.std.proofs.Common.{◌≡◌, inl, inr, ℕ, suc, ◌+◌, ◌-◌, ◌≤◌, List, [], ◌∷◌, map, Option, Some, None, refl, sym, ap, ◌∙◌, subst, arith}
+use Rattle.std.proofs.Common.{◌≡◌, inl, inr, ℕ, suc, ◌+◌, ◌-◌, ◌≤◌, false, List, [], ◌∷◌, map, Option, Some, None, refl, sym, ap, ◌∙◌, subst, arith}
 use Rattle.bus_base.specs.declared.samples.Part.TheVariants.{First, Second}
 use Rattle.bus_formats.specs.Forms.{answers_of}
 use Rattle.bus_formats.specs.Plans.{StationData}
@@ -22,12 +22,13 @@ use Rattle.bus_law_phases.specs.Scenarios.{Scenario, shown_at, driven_at, comman
 use Rattle.bus_law_phases.specs.Silences.{GoesOnTo}
 use Rattle.bus_law_phases.proofs.MuteDuties.{silence-answered}
 use Rattle.bus_law_told.specs.Tables.{MessageIs, first_shown, second_shown, IsAnswerTo}
-use Rattle.bus_law_told.specs.Told.{message_at, MessageTold}
+use Rattle.bus_law_moments.specs.Told.{message_at, MessageTold}
 use Rattle.bus_law_told.proofs.Answered.{came-due, course-due, shown-due}
 use Rattle.bus_law_told.proofs.Coming.{Came}
+use Rattle.bus_law_told.proofs.FirstAnswer.{stays}
 use Rattle.bus_law_told.proofs.FirstClosed.{settled_now, blocks_now}
 use Rattle.bus_law_told.proofs.FirstEnds.{second-answer}
-use Rattle.bus_law_told.proofs.Known.{Begins, c0, begun, command, ordered, attempt_begun, numbered, by-number, by-answers}
+use Rattle.bus_law_told.proofs.Known.{BeginsKept, c0, begun, command, ordered, attempt_begun, numbered, by-number, by-answers}
 use Rattle.bus_law_told.proofs.Muted.{muted-came, muted-unowed, muted-course, muted-shown}
 use Rattle.bus_law_told.proofs.Relayed.{AwaitsAfter, after-silence, relay_happens, came-relayed, course-relayed, awaits-relayed, no-second-told}
 use Rattle.bus_law_told.proofs.TablesFree.{settled-promise, silence-stations}
@@ -35,7 +36,7 @@ use Rattle.bus_law_told.proofs.TablesShown.{silent-or-mute}
 use Rattle.bus_law_told.proofs.TablesTold.{with-stations}
 use Rattle.bus_law_told.proofs.Unanswered.{waits-on, waiter-busy}
 
-module _ (w : Scenario) (t place : ℕ) (holder : StationData) (stations : List Present) (entry : Entry) (b : Begins w t place holder stations entry)
+module _ (w : Scenario) (t place : ℕ) (holder : StationData) (stations : List Present) (entry : Entry) (b : BeginsKept w t place holder stations entry)
     (shape : Shape) (expects : (answers_of entry.item.kind).first ≡ Some shape) (first : ShownAnswer)
     (shows : first_shown w.lag w.loads w.plan.faults (attempt_begun w t holder stations entry) entry.item (begun w t holder stations entry).state.channel t
     stations ≡ Some first) (other : Shape) (nexts : (answers_of entry.item.kind).second ≡ Some other) (status : ℕ)
@@ -92,26 +93,27 @@ module _ (w : Scenario) (t place : ℕ) (holder : StationData) (stations : List 
         with-stations (message_at w t holder stations entry) ended (x + no_response) settled (map (after_silence w.lag w.loads first.burst) settled) blocks
         (cmd ∷ first.burst ∷ [])
         (sym (silence-stations w.lag w.loads first.burst settled (settled-promise w.lag w.loads first.burst (ordered w t holder stations entry))))
-        (by-number w t place holder stations entry b ended (x + no_response) settled blocks (cmd ∷ first.burst ∷ [])
-        ((by-answers w t place holder stations entry b).silent_second shape other first status expects shows reading nexts silent))
+        (by-number w t place holder stations entry b.base ended (x + no_response) settled blocks (cmd ∷ first.burst ∷ [])
+        ((by-answers w t place holder stations entry b.base).silent_second shape other first status expects shows
+        (stays w t place holder stations entry b shape expects first shows) reading nexts silent))
 
-    unowed-told : answer_to first.burst settled ≡ None → MessageTold w t holder stations entry place
+    unowed-told : answer_to first.burst settled ≡ None → MessageTold w t holder stations entry place b.base.ended b.base.found
     unowed-told unowed =
-        let lag = b.lag in
+        let lag = b.base.began.lag in
         no-second-told w t place holder stations entry b shape expects first shows other nexts status reading u settled came-there runs-there awaits-there
         (none-found first.burst settled unowed) (omega (arith, lag)) silent-is
 
   -- ---- it becomes due
 
   module _ (answer : Answer) (found : answer_to first.burst settled ≡ Some answer) where
-    is : IsAnswerTo first.burst answer
+    is : IsAnswerTo first.burst false answer
     is = second-answer w t place holder stations entry b shape expects first shows answer found
 
     abbrev d : ℕ
     d = answer.start
 
     late : u ≤ d
-    late = let lag = b.lag in let after = is.after in omega (arith, lag, after)
+    late = let lag = b.base.began.lag in let after = is.after in omega (arith, lag, after)
 
     in-time : d ≤ x + 30
     in-time = let before = is.before in omega (arith, before)
@@ -119,61 +121,72 @@ module _ (w : Scenario) (t place : ℕ) (holder : StationData) (stations : List 
     idle : NothingStarts w.lag (course_of w holder (shown_at w u)) (shown_at w u) (d - u)
     idle =
         let before = is.before in
-        waits-on w t place holder start b.none u (d - u) x opened (ap (λ (c : Course). c.runs) runs-there) (inr awaits-there.0) (omega (arith, late, before))
+        waits-on w t place holder start b.base.began.none u (d - u) x opened (ap (λ (c : Course). c.runs) runs-there) (inr awaits-there.0)
+        (omega (arith, late, before))
 
     goes : GoesOnTo w (shown_at w u) d
     goes =
-        inl (waiter-busy w t place holder start b.none u first.burst.channel x Second settled opened came-there.moment
+        inl (waiter-busy w t place holder start b.base.began.none u first.burst.channel x Second settled opened came-there.moment
         (ap (λ (c : Course). c.runs) runs-there))
 
     pub here : Came w t place holder start d first.burst.channel x Second settled happens
-    here = came-due w t place holder start b.none b.lag b.accepted u first.burst Second settled happens came-there answer found late in-time idle goes
+    here =
+        came-due w t place holder start b.base.began.none b.base.began.lag b.base.began.accepted u first.burst Second settled happens came-there answer
+        found late in-time idle goes
 
     pub runs-here : course_of w holder (shown_at w d) ≡ with_running start opened
     runs-here =
-        course-due w t place holder start b.none b.lag b.accepted u first.burst Second settled happens came-there answer found late in-time idle goes
+        course-due w t place holder start b.base.began.none b.base.began.lag b.base.began.accepted u first.burst Second settled happens came-there answer
+        found late in-time idle goes
         ∙ runs-there
 
     pub awaits-here : AwaitsAfter w (shown_at w d) opened x status
     awaits-here =
         subst (λ p. AwaitsAfter w p opened x status)
-        (sym (shown-due w t place holder start b.none b.lag b.accepted u first.burst Second settled happens came-there answer found late in-time idle goes))
+        (sym (shown-due w t place holder start b.base.began.none b.base.began.lag b.base.began.accepted u first.burst Second settled happens came-there answer
+        found late in-time idle goes))
         (after-silence w (shown_at w u) opened x status (d - u) awaits-there)
 
     -- ---- but is mute
 
     module _ (silent : again ≡ None) where
       soon : d + suc w.lag ≤ x + no_response
-      soon = let lag = b.lag in let before = is.before in omega (arith, lag, before)
+      soon = let lag = b.base.began.lag in let before = is.before in omega (arith, lag, before)
 
       idle-mute : NothingStarts w.lag (course_of w holder (shown_at w d)) (shown_at w d) (suc w.lag)
       idle-mute =
-          waits-on w t place holder start b.none d (suc w.lag) x opened (ap (λ (c : Course). c.runs) runs-here) (inr awaits-here.0) soon
+          waits-on w t place holder start b.base.began.none d (suc w.lag) x opened (ap (λ (c : Course). c.runs) runs-here) (inr awaits-here.0) soon
 
       goes-mute : GoesOnTo w (shown_at w d) (d + suc w.lag)
       goes-mute =
-          inl (waiter-busy w t place holder start b.none d first.burst.channel x Second settled opened here.moment (ap (λ (c : Course). c.runs) runs-here))
+          inl (waiter-busy w t place holder start b.base.began.none d first.burst.channel x Second settled opened here.moment
+          (ap (λ (c : Course). c.runs) runs-here))
 
       mute-now : shown_answer (hits_on w.plan.faults (suc (commands_in w (driven_at w t))) Second) (answer_to first.burst settled) ≡ None
       mute-now =
-          subst (λ m. shown_answer (hits_on w.plan.faults m Second) (answer_to first.burst settled) ≡ None) (numbered w t place holder stations entry b) silent
+          subst (λ m. shown_answer (hits_on w.plan.faults m Second) (answer_to first.burst settled) ≡ None) (numbered w t place holder stations entry b.base)
+          silent
 
-      mute-told : MessageTold w t holder stations entry place
+      mute-told : MessageTold w t holder stations entry place b.base.ended b.base.found
       mute-told =
           no-second-told w t place holder stations entry b shape expects first shows other nexts status reading (d + suc w.lag) (map answered settled)
-          (muted-came w t place holder start b.none b.lag b.accepted d first.burst Second settled happens here answer found refl mute-now refl is.words
+          (muted-came w t place holder start b.base.began.none b.base.began.lag b.base.began.accepted d first.burst Second settled happens here answer found
+          refl mute-now refl is.words
           (λ e. absurd (cc e)) idle-mute goes-mute)
-          (muted-course w t place holder start b.none b.lag b.accepted d first.burst Second settled happens here answer found refl mute-now refl is.words
+          (muted-course w t place holder start b.base.began.none b.base.began.lag b.base.began.accepted d first.burst Second settled happens here answer found
+          refl mute-now refl is.words
           (λ e. absurd (cc e)) idle-mute goes-mute ∙ runs-here)
           (subst (λ p. AwaitsAfter w p opened x status)
-          (sym (muted-shown w t place holder start b.none b.lag b.accepted d first.burst Second settled happens here answer found refl mute-now refl is.words
+          (sym (muted-shown w t place holder start b.base.began.none b.base.began.lag b.base.began.accepted d first.burst Second settled happens here answer
+          found refl mute-now refl is.words
           (λ e. absurd (cc e)) idle-mute goes-mute)) (after-silence w (shown_at w d) opened x status (suc w.lag) awaits-here))
-          (muted-unowed w t place holder start b.none b.lag b.accepted d first.burst Second settled happens here answer found refl mute-now refl is.words
+          (muted-unowed w t place holder start b.base.began.none b.base.began.lag b.base.began.accepted d first.burst Second settled happens here answer found
+          refl mute-now refl is.words
           (λ e. absurd (cc e)) idle-mute goes-mute) soon
           (subst (λ afters. MessageIs (message_at w t holder stations entry) (ended silent) (x + no_response) afters blocks (cmd ∷ first.burst ∷ []))
           (sym (silence-answered w.lag w.loads first.burst settled)) (silent-is silent))
 
-  pub silent-told : again ≡ None → MessageTold w t holder stations entry place
+  pub silent-told : again ≡ None → MessageTold w t holder stations entry place b.base.ended b.base.found
   silent-told silent = elim (silent-or-mute (hits_on w.plan.faults n Second) (answer_to first.burst settled) silent) [
     | inl unowed ↦ unowed-told silent unowed
     | inr mute ↦ mute-told mute.0 mute.1 silent

@@ -26,7 +26,8 @@ use Rattle.bus_law_duties.proofs.Stays.{command-stays, answer-stays}
 use Rattle.bus_law_plans.specs.Memories.{IsBlock, AreBlocks}
 use Rattle.bus_law_plans.proofs.Answered.{shown-of}
 use Rattle.bus_law_plans.proofs.Lists.{each-weaker}
-use Rattle.bus_law_told.specs.Tables.{IsAnswerTo, IsShownTo, IsRanged}
+use Rattle.bus_law_moments.specs.Begun.{IsRanged}
+use Rattle.bus_law_told.specs.Tables.{IsAnswerTo, IsShownTo}
 
 -- ---- ranges
 
@@ -60,11 +61,12 @@ never-true true never = absurd (never refl)
 never-true false never = refl
 
 -- the answer of a terminal that owes one
-due-of : (burst : ShownBurst) (after : After) (answer : Answer) (words : List Word) (acceptance given : Bool) (data_words : List ℕ) →
+due-of : (burst : ShownBurst) (offers : Bool) (after : After) (answer : Answer) (words : List Word) (acceptance given : Bool) (data_words : List ℕ) →
     answer_for burst after (owes words acceptance) ≡ Some answer → IsBetween 8 24 after.station.plan.terminal.delay →
-    IsAnswerOf after given data_words words → address_of_station after.station ≢ 31 → acceptance ≡ false → IsAnswerTo burst answer
-due-of burst after answer words acceptance given data_words is delay of terminal declines =
-    subst (IsAnswerTo burst) (same_Some _ _ is) record {
+    IsAnswerOf after given data_words words → address_of_station after.station ≢ 31 → (offers ≡ false → acceptance ≡ false) →
+    IsAnswerTo burst offers answer
+due-of burst offers after answer words acceptance given data_words is delay of terminal declines =
+    subst (IsAnswerTo burst offers) (same_Some _ _ is) record {
       words = record {
         status = _;
         data_words = data_words;
@@ -82,14 +84,14 @@ due-of burst after answer words acceptance given data_words is delay of terminal
     }
 
 -- an answer that a station may give to a burst is such an answer
-abbrev Gives : ShownBurst → After → Type 0
-Gives burst after = (answer : Answer) → answer_for burst after after.duty ≡ Some answer → IsAnswerTo burst answer
+abbrev Gives : ShownBurst → Bool → After → Type 0
+Gives burst offers after = (answer : Answer) → answer_for burst after after.duty ≡ Some answer → IsAnswerTo burst offers answer
 
-by-all : (burst : ShownBurst) (afters : List After) → All (Gives burst) afters → (answer : Answer) → answer_to burst afters ≡ Some answer →
-    IsAnswerTo burst answer
-by-all burst afters all answer is =
+by-all : (burst : ShownBurst) (offers : Bool) (afters : List After) → All (Gives burst offers) afters → (answer : Answer) →
+    answer_to burst afters ≡ Some answer → IsAnswerTo burst offers answer
+by-all burst offers afters all answer is =
     let found = answer-found burst afters answer is in
-    All-contains (Gives burst) afters found.0 all found.1 answer found.2
+    All-contains (Gives burst offers) afters found.0 all found.1 answer found.2
 
 -- no relay's receiver is a controller alone
 receiver-terminal : (kind : Kind) (own : ℕ) → IsOnlyReceiver kind own → own ≢ 31
@@ -107,23 +109,23 @@ module _ (k : ℕ) (loads : List TimedLoad) (channel : Channel) (start : ℕ) (h
 
   -- ---- to the command
 
-  module _ (plain : is_offer item.kind ≡ false) (fit : All HasTimedLoadRanges loads) where
+  module _ (fit : All HasTimedLoadRanges loads) where
     first-by : (station : Present) → HasPresentRanges station → (duty : Duty) → (obeyed station).duty ≡ duty → (answer : Answer) →
-        answer_for command (obeyed station) duty ≡ Some answer → IsAnswerTo command answer
+        answer_for command (obeyed station) duty ≡ Some answer → IsAnswerTo command (is_offer item.kind) answer
     first-by station present free owed answer is = absurd (none-some answer is)
     first-by station present (promises other transmitter) owed answer is = absurd (none-some answer is)
     first-by station present (owes words acceptance) owed answer is =
         let o = who-owes k loads channel start hits item station words acceptance ranges fit present owed in
-        due-of command (obeyed station) answer words acceptance acceptance o.0 is
+        due-of command (is_offer item.kind) (obeyed station) answer words acceptance acceptance o.0 is
         (subst (λ (s : Present). IsBetween 8 24 s.plan.terminal.delay) (sym (command-stays k loads command station)) present.terminal.delay)
         o.1.answer o.1.terminal
-        (never-true acceptance (λ accepts. let a : IsAcceptance item.kind (obeyed station) = o.1.accepted accepts in true≢false (sym a.offer ∙ plain)))
+        (λ plain. never-true acceptance (λ accepts. let a : IsAcceptance item.kind (obeyed station) = o.1.accepted accepts in true≢false (sym a.offer ∙ plain)))
 
     pub first-due : (stations : List Present) → Each IsRanged stations → (answer : Answer) → answer_to command (map obeyed stations) ≡ Some answer →
-        IsAnswerTo command answer
+        IsAnswerTo command (is_offer item.kind) answer
     first-due stations each =
-        by-all command (map obeyed stations)
-        (All-map (Gives command) obeyed stations
+        by-all command (is_offer item.kind) (map obeyed stations)
+        (All-map (Gives command (is_offer item.kind)) obeyed stations
         (λ i d inside. let station : Present = get_or stations i d in
         first-by station (all-present stations each i d inside) (obeyed station).duty refl))
 
@@ -134,30 +136,31 @@ module _ (k : ℕ) (loads : List TimedLoad) (channel : Channel) (start : ℕ) (h
     settled_so station = after_answer k loads answer (obeyed station)
 
     second-by : (station : Present) → HasPresentRanges station → (duty : Duty) → (settled_so station).duty ≡ duty → (second : Answer) →
-        answer_for answer (settled_so station) duty ≡ Some second → IsAnswerTo answer second
+        answer_for answer (settled_so station) duty ≡ Some second → IsAnswerTo answer false second
     second-by station present free owed second is = absurd (none-some second is)
     second-by station present (promises other transmitter) owed second is = absurd (none-some second is)
     second-by station present (owes words acceptance) owed second is =
         let o = who-owes-answer k loads channel start hits item answer station words acceptance ranges present.terminal.address owed in
-        due-of answer (settled_so station) second words acceptance false [] is
+        due-of answer false (settled_so station) second words acceptance false [] is
         (subst (λ (s : Present). IsBetween 8 24 s.plan.terminal.delay) (sym (answer-stays k loads answer (obeyed station)))
         (subst (λ (s : Present). IsBetween 8 24 s.plan.terminal.delay) (sym (command-stays k loads command station)) present.terminal.delay))
-        o.answer (receiver-terminal item.kind (address_of_station (settled_so station).station) o.receiver) o.accepted
+        o.answer (receiver-terminal item.kind (address_of_station (settled_so station).station) o.receiver) (λ none. o.accepted)
 
     pub second-due : (stations : List Present) → Each IsRanged stations → (second : Answer) →
-        answer_to answer (map (after_answer k loads answer) (map obeyed stations)) ≡ Some second → IsAnswerTo answer second
+        answer_to answer (map (after_answer k loads answer) (map obeyed stations)) ≡ Some second →
+        IsAnswerTo answer false second
     second-due stations each =
-        by-all answer (map (after_answer k loads answer) (map obeyed stations))
-        (All-map (Gives answer) (after_answer k loads answer) (map obeyed stations)
-        (All-map (λ a. Gives answer (after_answer k loads answer a)) obeyed stations
+        by-all answer false (map (after_answer k loads answer) (map obeyed stations))
+        (All-map (Gives answer false) (after_answer k loads answer) (map obeyed stations)
+        (All-map (λ a. Gives answer false (after_answer k loads answer a)) obeyed stations
         (λ i d inside. let station : Present = get_or stations i d in
         second-by station (all-present stations each i d inside) (settled_so station).duty refl)))
 
 -- ---- as it is shown
 
-pub shown-to : (burst : ShownBurst) (hits : List Hit) (answer : Option Answer) (shown : ShownAnswer) → shown_answer hits answer ≡ Some shown →
-    ((a : Answer) → answer ≡ Some a → IsAnswerTo burst a) → IsShownTo burst shown
-shown-to burst hits answer shown is of =
+pub shown-to : (burst : ShownBurst) (offers : Bool) (hits : List Hit) (answer : Option Answer) (shown : ShownAnswer) →
+    shown_answer hits answer ≡ Some shown → ((a : Answer) → answer ≡ Some a → IsAnswerTo burst offers a) → IsShownTo burst offers shown
+shown-to burst offers hits answer shown is of =
     let so = shown-of hits answer shown is in
     let sent = of shown.sent so.sent in
     record { sent = sent; channel = so.channel ∙ sent.channel; start = so.start; rest = so.rest }

@@ -1,6 +1,7 @@
 -- From which tick on both channels are quiet after the bursts of a message.
-use Rattle.std.proofs.Common.{◌≡◌, ℕ, ◌≤◌, [], ◌∷◌, ap, ◌∙◌, arith}
+use Rattle.std.proofs.Common.{◌≡◌, ℕ, ◌≤◌, List, [], ◌∷◌, ◌++◌, sym, ap, ◌∙◌, arith, append_assoc}
 use Rattle.std.proofs.Math.Nat.{zero-max}
+use Rattle.std.proofs.lemmas.Grind.{fold-append}
 use Rattle.std.specs.Prelude.{max}
 use Rattle.bus_model.specs.Run.{quiet_after}
 use Rattle.bus_model.specs.Strikes.{ShownBurst, burst_end}
@@ -11,11 +12,16 @@ later-max m n low = grind (arith, low)
 pub quiet-one : (command : ShownBurst) → quiet_after (command ∷ []) ≡ burst_end command
 quiet-one command = zero-max (burst_end command)
 
-pub quiet-two : (command first : ShownBurst) → burst_end command ≤ first.start → quiet_after (command ∷ first ∷ []) ≡ burst_end first
-quiet-two command first after =
-    ap (λ n. max n (burst_end first)) (zero-max (burst_end command)) ∙ later-max (burst_end command) (burst_end first) (omega (arith, after))
+-- one burst more, which begins where the last one ended or later
+pub quiet-more : (found : List ShownBurst) (e : ℕ) (later : ShownBurst) → quiet_after found ≡ e → e ≤ later.start →
+    quiet_after (found ++ later ∷ []) ≡ burst_end later
+quiet-more found e later last follows =
+    fold-append (λ tick (b : ShownBurst). max tick (burst_end b)) 0 found (later ∷ [])
+    ∙ ap (λ n. max n (burst_end later)) last
+    ∙ later-max e (burst_end later) (omega (arith, follows))
 
-pub quiet-three : (command first second : ShownBurst) → burst_end command ≤ first.start → burst_end first ≤ second.start →
-    quiet_after (command ∷ first ∷ second ∷ []) ≡ burst_end second
-quiet-three command first second after later =
-    ap (λ n. max n (burst_end second)) (quiet-two command first after) ∙ later-max (burst_end first) (burst_end second) (omega (arith, later))
+pub quiet-both : (found : List ShownBurst) (e : ℕ) (first second : ShownBurst) → quiet_after found ≡ e → e ≤ first.start →
+    burst_end first ≤ second.start → quiet_after (found ++ first ∷ second ∷ []) ≡ burst_end second
+quiet-both found e first second last after later =
+    ap quiet_after (sym (append_assoc found (first ∷ []) (second ∷ [])))
+    ∙ quiet-more (found ++ first ∷ []) (burst_end first) second (quiet-more found e first last after) later

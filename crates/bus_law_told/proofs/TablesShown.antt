@@ -24,7 +24,8 @@ use Rattle.bus_law_table.specs.Stations.{loaded_at, ArePresent}
 use Rattle.bus_law_table.proofs.Pairing.{beside, each-other}
 use Rattle.bus_law_table.proofs.Pairing.{Each as Every}
 use Rattle.bus_law_phases.proofs.Pairs.{each-of}
-use Rattle.bus_law_told.specs.Tables.{IsShownTo, IsRanged, HasNoWordLeft, command_shown, ordered, first_shown, settled, second_shown}
+use Rattle.bus_law_moments.specs.Begun.{IsRanged}
+use Rattle.bus_law_told.specs.Tables.{IsShownTo, HasNoWordLeft, command_shown, ordered, first_shown, settled, second_shown}
 use Rattle.bus_law_told.proofs.TablesDue.{first-due, second-due, shown-to}
 
 -- ---- stations of a plan
@@ -55,19 +56,19 @@ stations-ranged k plan loads outside absent past stations accepted are words =
 module _ (k : ℕ) (loads : List TimedLoad) (faults : List Fault) (attempt : ℕ) (item : ItemData) (channel : Channel) (start : ℕ) (stations : List Present)
     (ranges : HasKindRanges item.kind) (each : Each IsRanged stations) where
   -- the first answer
-  pub first-shown-to : is_offer item.kind ≡ false → All HasTimedLoadRanges loads → (first : ShownAnswer) →
+  pub first-shown-to : All HasTimedLoadRanges loads → (first : ShownAnswer) →
       first_shown k loads faults attempt item channel start stations ≡ Some first →
-      IsShownTo (command_shown k loads faults attempt item channel start stations) first
-  first-shown-to plain fit first is =
-      shown-to (command_shown k loads faults attempt item channel start stations) (hits_on faults attempt First)
+      IsShownTo (command_shown k loads faults attempt item channel start stations) (is_offer item.kind) first
+  first-shown-to fit first is =
+      shown-to (command_shown k loads faults attempt item channel start stations) (is_offer item.kind) (hits_on faults attempt First)
       (answer_to (command_shown k loads faults attempt item channel start stations) (ordered k loads faults attempt item channel start stations)) first is
-      (first-due k loads channel start (hits_on faults attempt Command) item ranges plain fit stations each)
+      (first-due k loads channel start (hits_on faults attempt Command) item ranges fit stations each)
 
   -- the second one
   pub second-shown-to : (first second : ShownAnswer) → second_shown k loads faults attempt item channel start stations first ≡ Some second →
-      IsShownTo first.burst second
+      IsShownTo first.burst false second
   second-shown-to first second is =
-      shown-to first.burst (hits_on faults attempt Second)
+      shown-to first.burst false (hits_on faults attempt Second)
       (answer_to first.burst (settled k loads faults attempt item channel start stations first)) second is
       (second-due k loads channel start (hits_on faults attempt Command) item ranges first.burst stations each)
 

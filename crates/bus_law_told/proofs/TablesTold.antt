@@ -1,5 +1,5 @@
 -- What a message of the table is, by what is shown of its answers.
-use Rattle.std.proofs.Common.{◌≡◌, ℕ, ◌+◌, false, List, [], ◌∷◌, ◌++◌, map, Option, Some, None, refl, sym, ap, ◌∙◌, subst}
+use Rattle.std.proofs.Common.{◌≡◌, inl, inr, ℕ, ◌+◌, Bool, true, false, List, [], ◌∷◌, ◌++◌, map, Option, Some, None, refl, sym, ap, ◌∙◌, subst}
 use Rattle.std.proofs.lemmas.Bool.{true≢false}
 use Rattle.std.specs.Prelude.{option_to_list}
 use Rattle.bus_base.specs.declared.samples.Channel.{Channel}
@@ -10,7 +10,7 @@ use Rattle.bus_formats.specs.Plans.{ItemData}
 use Rattle.bus_formats.specs.Readings.{read_answer}
 use Rattle.bus_formats.specs.declared.fault.Fault.{Fault}
 use Rattle.bus_formats.specs.declared.form.Outcome.{Outcome}
-use Rattle.bus_formats.specs.declared.form.Outcome.TheVariants.{Passed, BadReply}
+use Rattle.bus_formats.specs.declared.form.Outcome.TheVariants.{Clear, Sent, Declined, Passed, Illegal, Busy, NoResponse, BadReply, Abandoned, Yielded}
 use Rattle.bus_formats.specs.declared.form.Reading.{Reading}
 use Rattle.bus_formats.specs.declared.form.Reading.TheVariants.{Good, Ends}
 use Rattle.bus_formats.specs.declared.form.Shape.{Shape}
@@ -24,7 +24,7 @@ use Rattle.bus_model.specs.Strikes.{hits_on, ShownBurst, burst_end, ShownAnswer,
 use Rattle.bus_law_duties.specs.Duties.{AreFree}
 use Rattle.bus_law_duties.proofs.OneOwes.{none-owes}
 use Rattle.bus_law_duties.proofs.Settled.{none-owes-answer}
-use Rattle.bus_law_told.specs.Tables.{MessageIs, command_shown, ordered, first_shown, settled, second_shown, command_blocks, answer_blocks, this_message, AnsweredIs, IsToldByAnswers}
+use Rattle.bus_law_told.specs.Tables.{MessageIs, IsRefusal, EndsAtOnce, command_shown, ordered, first_shown, settled, second_shown, command_blocks, answer_blocks, this_message, AnsweredIs, IsToldByAnswers}
 use Rattle.bus_law_told.proofs.TablesFree.{free-unanswered, free-promise, silence-stations}
 use Rattle.bus_law_told.proofs.HoldersReadings.{reading-keeps}
 
@@ -37,6 +37,31 @@ ends-once k kind first Passed status keeps = absurd (true≢false keeps)
 ends-once k kind first (BadReply part) status keeps = refl
 ends-once k kind first outcome status keeps = refl
 
+-- so does one that refuses an offer
+refused-by : (k : ℕ) (kind : Kind) (first : ShownAnswer) (offer : Bool) (outcome : Outcome) (status : Option ℕ) → IsRefusal outcome →
+    read_ending k kind first offer outcome status ≡ ends outcome status None (burst_end first.burst + k)
+refused-by k kind first true (Illegal part) status is = refl
+refused-by k kind first false (Illegal part) status is = refl
+refused-by k kind first true Declined status is = refl
+refused-by k kind first false Declined status is = refl
+refused-by k kind first offer Clear status is = absurd is
+refused-by k kind first offer Sent status is = absurd is
+refused-by k kind first offer Passed status is = absurd is
+refused-by k kind first offer (Busy part) status is = absurd is
+refused-by k kind first offer (NoResponse part) status is = absurd is
+refused-by k kind first offer (BadReply part) status is = absurd is
+refused-by k kind first offer Abandoned status is = absurd is
+refused-by k kind first offer Yielded status is = absurd is
+
+-- where it ends it at once
+at-once : (k : ℕ) (kind : Kind) (first : ShownAnswer) (outcome : Outcome) (status : Option ℕ) → EndsAtOnce kind outcome →
+    read_answer kind First first.burst.slots first.burst.rest ≡ Ends outcome status →
+    read_ending k kind first (is_offer kind) outcome status ≡ ends outcome status None (burst_end first.burst + k)
+at-once k kind first outcome status (inl plain) reading =
+    ap (λ offer. read_ending k kind first offer outcome status) plain
+    ∙ ends-once k kind first outcome status (reading-keeps kind First first.burst.slots first.burst.rest outcome status plain reading)
+at-once k kind first outcome status (inr refuses) reading = refused-by k kind first (is_offer kind) outcome status refuses
+
 -- where nothing is shown of an expected answer
 ends-silent : (k : ℕ) (item : ItemData) (end : ℕ) (shape : Shape) → (answers_of item.kind).first ≡ Some shape →
     ending_of k item end None None ≡ ending_by k item.kind item.abandon end None None (Some shape)
@@ -44,12 +69,12 @@ ends-silent k item end shape expected = ap (ending_by k item.kind item.abandon e
 
 -- where a first answer is shown, by how it is read
 ends-read : (k : ℕ) (item : ItemData) (end : ℕ) (shape : Shape) (first : ShownAnswer) (second : Option ShownAnswer) (reading : Reading) →
-    item.abandon ≡ None → (answers_of item.kind).first ≡ Some shape →
+    abandoned_at k item.kind item.abandon end first ≡ None → (answers_of item.kind).first ≡ Some shape →
     read_answer item.kind First first.burst.slots first.burst.rest ≡ reading →
     ending_of k item end (Some first) second ≡ first_read k item.kind first second reading
 ends-read k item end shape first second reading stays expected is =
     ap (ending_by k item.kind item.abandon end (Some first) second) expected
-    ∙ ap (λ n. heard_ending k item.kind first second (abandoned_at k item.kind n end first)) stays
+    ∙ ap (heard_ending k item.kind first second) stays
     ∙ ap (first_read k item.kind first second) is
 
 -- where it is good and a second one is shown, by how that is read
@@ -144,35 +169,33 @@ module _ (k : ℕ) (loads : List TimedLoad) (faults : List Fault) (attempt : ℕ
   unanswered-again first all = ap (shown_answer (hits_on faults attempt Second)) (free-unanswered first.burst (settled_by first) all)
 
   -- the message is what its answers make of it
-  pub told-by-answers : HasKindRanges item.kind → item.abandon ≡ None → is_offer item.kind ≡ false →
-      IsToldByAnswers k loads faults attempt item channel start stations
-  told-by-answers ranges stays plain = record {
+  pub told-by-answers : HasKindRanges item.kind → IsToldByAnswers k loads faults attempt item channel start stations
+  told-by-answers ranges = record {
     sent = λ none.
         let all : AreFree obeyed = none-owes k loads channel start (hits_on faults attempt Command) item stations ranges none in
         with-stations told _ _ (map (after_silence k loads command) obeyed) obeyed taken (command ∷ [])
         (silence-stations k loads command obeyed (free-promise obeyed all))
         (silently _ _ (unanswered all) (ap (ending_by k item.kind item.abandon (burst_end command) None None) none));
     silent = λ shape expected none. silently _ _ none (ends-silent k item (burst_end command) shape expected);
-    ends = λ shape first outcome status expected is reading.
+    ends = λ shape first outcome status expected is stays soon reading.
         shown-by first (answered_again first) (without_words outcome status None) (burst_end first.burst + k) is refl
         (ends-read k item (burst_end command) shape first (answered_again first) (Ends outcome status) stays expected reading
-        ∙ ap (λ offer. read_ending k item.kind first offer outcome status) plain
-        ∙ ends-once k item.kind first outcome status (reading-keeps item.kind First first.burst.slots first.burst.rest outcome status plain reading));
-    clear = λ shape first status expected is reading none.
+        ∙ at-once k item.kind first outcome status soon reading);
+    clear = λ shape first status expected is stays reading none.
         let over : answered_again first ≡ None =
         unanswered-again first (none-owes-answer k loads channel start (hits_on faults attempt Command) item first.burst stations ranges none) in (
           over,
           shown-by first None _ _ is over
               (ends-read k item (burst_end command) shape first None (Good status) stays expected reading ∙ ap (good_ending k item.kind status first None) none),
         );
-    silent_second = λ shape other first status expected is reading again none.
+    silent_second = λ shape other first status expected is stays reading again none.
         shown-by first None _ _ is none
         (ends-read k item (burst_end command) shape first None (Good status) stays expected reading ∙ ap (good_ending k item.kind status first None) again);
-    clear_second = λ shape other first second status later expected is reading again shown good.
+    clear_second = λ shape other first second status later expected is stays reading again shown good.
         shown-by first (Some second) _ _ is shown
         (ends-read k item (burst_end command) shape first (Some second) (Good status) stays expected reading
         ∙ second-by k item.kind first second other status (Good later) again good);
-    ends_second = λ shape other first second status outcome later expected is reading again shown ends.
+    ends_second = λ shape other first second status outcome later expected is stays reading again shown ends.
         shown-by first (Some second) _ _ is shown
         (ends-read k item (burst_end command) shape first (Some second) (Good status) stays expected reading
         ∙ second-by k item.kind first second other status (Ends outcome later) again ends);

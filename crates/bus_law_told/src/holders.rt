@@ -1,51 +1,32 @@
 //! The station in control beside an answer. Laws alone, each the contract of an empty function.
 
-ghost use Rattle.std.specs.Prelude.{◌≡◌, ℕ, suc, ◌+◌, ◌<◌, false, List, ◌∷◌, ◌++◌, length, Option, Some, None};
+ghost use Rattle.std.specs.Prelude.{◌≡◌, ℕ, suc, ◌+◌, ◌<◌, false, List, length, Option, Some};
 ghost use Rattle.bus_base.specs.declared.samples.Channel.{Channel};
 ghost use Rattle.bus_base.specs.declared.samples.Pair.{Pair};
 ghost use Rattle.bus_base.specs.declared.samples.Part.{Part};
-ghost use Rattle.bus_base.specs.declared.samples.Part.TheVariants.{First, Second};
+ghost use Rattle.bus_base.specs.declared.samples.Part.TheVariants.{Second};
 ghost use Rattle.bus_line.specs.Channels.{on_channel};
-ghost use Rattle.bus_line.specs.Past.{Burst, end_of};
+ghost use Rattle.bus_line.specs.Past.{Burst};
 ghost use Rattle.bus_words.specs.declared.word.Word.{Word};
-ghost use Rattle.bus_formats.specs.Forms.{answers_of};
 ghost use Rattle.bus_formats.specs.Plans.{StationData};
 ghost use Rattle.bus_formats.specs.Readings.{read_answer};
 ghost use Rattle.bus_formats.specs.Times.{settling_quiet};
 ghost use Rattle.bus_formats.specs.declared.form.Outcome.{Outcome};
 ghost use Rattle.bus_formats.specs.declared.form.Outcome.TheVariants.{Clear};
 ghost use Rattle.bus_formats.specs.declared.form.Reading.TheVariants.{Good, Ends};
-ghost use Rattle.bus_formats.specs.declared.form.Shape.{Shape};
 ghost use Rattle.bus_formats.specs.declared.plan.Kind.{Kind};
-ghost use Rattle.bus_model.specs.Attempts.{Begun, Ended, without_words, kept_words, is_offer};
+ghost use Rattle.bus_model.specs.Attempts.{Begun, Ended, without_words, is_offer};
 ghost use Rattle.bus_model.specs.Course.{Course, gives, close, quiet_from};
 ghost use Rattle.bus_model.specs.Starts.{usual, opening_after};
-ghost use Rattle.bus_law_stations.specs.Silence.{AwaitsFirst, AwaitsSecond};
-ghost use Rattle.bus_law_phases.specs.Answers.{ShowsWhole, HoldsBeside};
+ghost use Rattle.bus_law_stations.specs.Silence.{AwaitsSecond};
+ghost use Rattle.bus_law_phases.specs.Answers.{HoldsBeside};
 ghost use Rattle.bus_law_phases.specs.Scenarios.{Scenario, course_of};
 ghost use Rattle.bus_law_told.specs.Holders.{answer_read, HoldsInQuiet, IsAnsweredInTime, StartsInQuiet, closed_with};
-ghost use Rattle.bus_law_told.specs.Plain.{IsPlainItem};
 
-/// Beside an answer the station in control sends nothing, and keeps control. Where its message waits for that answer it is read with its end: as the
-/// end of the message, with the answer's words where it is good, or, of a relay's first answer, so that the second one is awaited. Where no message
-/// of it runs nothing changes, if the next one needs more quiet ticks than the lag has. At every lag below the wait for an answer.
+/// Beside an answer the station in control sends nothing, and keeps control. Where its message waits for a relay's second answer it is read with its end,
+/// as the end of the message. Where no message of it runs nothing changes, if the next one needs more quiet ticks than the lag has. At every lag below the
+/// wait for an answer.
 pub fn a_station_in_control_holds_beside_an_answer()
-    ensures first { (w : Scenario) (past : List Pair) (holder : StationData) (c : Channel) (begun : Begun) (e : ℕ) (burst : Burst) (outcome : Outcome)
-        (status : Option ℕ) → IsAnsweredInTime w past holder c begun e → AwaitsFirst w.lag begun (on_channel c past) e →
-        IsPlainItem begun.entry.item → answer_read begun First burst ≡ Ends outcome status →
-        HoldsBeside w past holder c burst (closed_with w past holder c begun burst (without_words outcome status None)) }
-    ensures clear { (w : Scenario) (past : List Pair) (holder : StationData) (c : Channel) (begun : Begun) (e : ℕ) (burst : Burst) (status : ℕ) →
-        IsAnsweredInTime w past holder c begun e → AwaitsFirst w.lag begun (on_channel c past) e → IsPlainItem begun.entry.item →
-        answer_read begun First burst ≡ Good status → (answers_of begun.entry.item.kind).second ≡ None →
-        HoldsBeside w past holder c burst (closed_with w past holder c begun burst record (without_words Clear (Some status) None) {
-          words = kept_words begun.entry.item.kind burst.slots;
-        }) }
-    ensures relayed { (w : Scenario) (past : List Pair) (holder : StationData) (c : Channel) (begun : Begun) (e : ℕ) (burst : Burst) (status : ℕ)
-        (shape : Shape) → w.lag < 24 → IsAnsweredInTime w past holder c begun e → AwaitsFirst w.lag begun (on_channel c past) e →
-        IsPlainItem begun.entry.item → answer_read begun First burst ≡ Good status → (answers_of begun.entry.item.kind).second ≡ Some shape →
-        HoldsBeside w past holder c burst (course_of w holder past)
-        × ((x : Pair) (ticks : List Pair) → ShowsWhole w.lag c burst past x ticks →
-        (later : AwaitsSecond w.lag begun (on_channel c (x ∷ (ticks ++ past))) (end_of burst)) × (later.status ≡ status)) }
     ensures second { (w : Scenario) (past : List Pair) (holder : StationData) (c : Channel) (begun : Begun) (e : ℕ) (burst : Burst) (outcome : Outcome)
         (second : Option ℕ) → IsAnsweredInTime w past holder c begun e → (waits : AwaitsSecond w.lag begun (on_channel c past) e) →
         answer_read begun Second burst ≡ Ends outcome second →

@@ -1,15 +1,13 @@
 //! A message of the table by what is shown of its answers. Laws alone, each the contract of an empty function.
 
-ghost use Rattle.std.specs.Prelude.{◌≡◌, ◌⊎◌, ℕ, ◌≤◌, false, List, [], ◌∷◌, map, Option, Some, None, All};
+ghost use Rattle.std.specs.Prelude.{◌≡◌, ◌⊎◌, ℕ, ◌≤◌, Bool, false, List, [], ◌∷◌, ◌++◌, map, Option, Some, None, All};
 ghost use Rattle.std.specs.List.{AllByRecursion as Each};
 ghost use Rattle.bus_base.specs.declared.samples.Channel.{Channel};
 ghost use Rattle.bus_base.specs.declared.samples.Pair.{Pair};
-ghost use Rattle.bus_words.specs.declared.word.Word.{Word};
 ghost use Rattle.bus_formats.specs.Accepted.{HasKindRanges, IsAccepted};
 ghost use Rattle.bus_formats.specs.Plans.{ItemData, PlanData};
 ghost use Rattle.bus_formats.specs.declared.fault.Fault.{Fault};
 ghost use Rattle.bus_formats.specs.declared.fault.Hit.{Hit};
-ghost use Rattle.bus_formats.specs.declared.plan.Kind.{Kind};
 ghost use Rattle.bus_model.specs.Attempts.{is_offer};
 ghost use Rattle.bus_model.specs.Control.{OutsideTake};
 ghost use Rattle.bus_model.specs.Memory.{TimedLoad};
@@ -21,13 +19,14 @@ ghost use Rattle.bus_law_duties.specs.Duties.{AreFree};
 ghost use Rattle.bus_law_duties.specs.Ranges.{HasTimedLoadRanges};
 ghost use Rattle.bus_law_plans.specs.Memories.{AreBlocks, HasWordRanges};
 ghost use Rattle.bus_law_table.specs.Stations.{ArePresent};
-ghost use Rattle.bus_law_told.specs.Tables.{IsToldByAnswers, IsAnswerTo, IsShownTo, IsRanged, HasNoWordLeft, command_shown, first_shown, second_shown};
+ghost use Rattle.bus_law_moments.specs.Begun.{IsRanged};
+ghost use Rattle.bus_law_told.specs.Tables.{IsToldByAnswers, IsAnswerTo, IsShownTo, HasNoWordLeft, command_shown, first_shown, second_shown};
 
-/// A message that isn't abandoned and offers no control, and beside which no answer runs on, is what its answers make of it: how it ends and when, and
+/// A message that isn't abandoned and gives no control away, and beside which no answer runs on, is what its answers make of it: how it ends and when, and
 /// which stations, blocks and bursts it leaves.
 pub fn a_message_is_told_by_its_answers()
     ensures { (k : ℕ) (loads : List TimedLoad) (faults : List Fault) (attempt : ℕ) (item : ItemData) (channel : Channel) (start : ℕ)
-        (stations : List Present) → HasKindRanges item.kind → item.abandon ≡ None → is_offer item.kind ≡ false →
+        (stations : List Present) → HasKindRanges item.kind →
         IsToldByAnswers k loads faults attempt item channel start stations }
 {}
 
@@ -50,25 +49,28 @@ pub fn stations_settle_once()
 /// Bursts that follow one another leave both channels quiet from the end of the last one on.
 pub fn bursts_end_with_the_last_one()
     ensures one { (command : ShownBurst) → quiet_after (command ∷ []) ≡ burst_end command }
-    ensures two { (command first : ShownBurst) → burst_end command ≤ first.start → quiet_after (command ∷ first ∷ []) ≡ burst_end first }
-    ensures three { (command first second : ShownBurst) → burst_end command ≤ first.start → burst_end first ≤ second.start →
-        quiet_after (command ∷ first ∷ second ∷ []) ≡ burst_end second }
+    ensures more { (found : List ShownBurst) (e : ℕ) (later : ShownBurst) → quiet_after found ≡ e → e ≤ later.start →
+        quiet_after (found ++ later ∷ []) ≡ burst_end later }
+    ensures both { (found : List ShownBurst) (e : ℕ) (first second : ShownBurst) → quiet_after found ≡ e → e ≤ first.start →
+        burst_end first ≤ second.start → quiet_after (found ++ first ∷ second ∷ []) ≡ burst_end second }
 {}
 
-/// The answer to the command of a message that offers no control, and the answer to that answer, whatever faults strike both bursts: each is a status
-/// with data words, which accepts no control, and begins on the channel of the message, at least 4 and at most 20 dead ticks after the burst before it.
+/// The answer to the command of a message, and the answer to that answer, whatever faults strike both bursts: each is a status with data words, which
+/// accepts no control where none is offered, and begins on the channel of the message, at least 4 and at most 20 dead ticks after the burst before it.
 /// For a station of a plan whose ranges are kept. What is shown of one is shown as it was sent.
 pub fn what_an_answer_of_the_table_is()
     ensures first { (k : ℕ) (loads : List TimedLoad) (channel : Channel) (start : ℕ) (hits : List Hit) (item : ItemData) (stations : List Present)
-        (answer : Answer) → HasKindRanges item.kind → is_offer item.kind ≡ false → All HasTimedLoadRanges loads → Each IsRanged stations →
+        (answer : Answer) → HasKindRanges item.kind → All HasTimedLoadRanges loads → Each IsRanged stations →
         let command = command_burst channel start hits item in
-        answer_to command (map (after_command k loads command) stations) ≡ Some answer → IsAnswerTo command answer }
+        answer_to command (map (after_command k loads command) stations) ≡ Some answer →
+        IsAnswerTo command (is_offer item.kind) answer }
     ensures second { (k : ℕ) (loads : List TimedLoad) (channel : Channel) (start : ℕ) (hits : List Hit) (item : ItemData) (stations : List Present)
         (burst : ShownBurst) (answer : Answer) → HasKindRanges item.kind → Each IsRanged stations →
         let command = command_burst channel start hits item in
-        answer_to burst (map (after_answer k loads burst) (map (after_command k loads command) stations)) ≡ Some answer → IsAnswerTo burst answer }
-    ensures shown { (burst : ShownBurst) (hits : List Hit) (answer : Option Answer) (shown : ShownAnswer) → shown_answer hits answer ≡ Some shown →
-        ((a : Answer) → answer ≡ Some a → IsAnswerTo burst a) → IsShownTo burst shown }
+        answer_to burst (map (after_answer k loads burst) (map (after_command k loads command) stations)) ≡ Some answer →
+        IsAnswerTo burst false answer }
+    ensures shown { (burst : ShownBurst) (offers : Bool) (hits : List Hit) (answer : Option Answer) (shown : ShownAnswer) →
+        shown_answer hits answer ≡ Some shown → ((a : Answer) → answer ≡ Some a → IsAnswerTo burst offers a) → IsShownTo burst offers shown }
     ensures loads { (loads : List TimedLoad) → AreBlocks loads → All HasTimedLoadRanges loads }
 {}
 
@@ -79,11 +81,11 @@ pub fn the_answers_of_a_message_are_those_of_the_table()
         (stations : List Present) → IsAccepted plan → ArePresent k plan loads outside absent past stations → Each HasWordRanges stations →
         Each IsRanged stations }
     ensures first { (k : ℕ) (loads : List TimedLoad) (faults : List Fault) (attempt : ℕ) (item : ItemData) (channel : Channel) (start : ℕ)
-        (stations : List Present) → HasKindRanges item.kind → Each IsRanged stations → is_offer item.kind ≡ false → All HasTimedLoadRanges loads →
+        (stations : List Present) → HasKindRanges item.kind → Each IsRanged stations → All HasTimedLoadRanges loads →
         (first : ShownAnswer) → first_shown k loads faults attempt item channel start stations ≡ Some first →
-        IsShownTo (command_shown k loads faults attempt item channel start stations) first }
+        IsShownTo (command_shown k loads faults attempt item channel start stations) (is_offer item.kind) first }
     ensures second { (k : ℕ) (loads : List TimedLoad) (faults : List Fault) (attempt : ℕ) (item : ItemData) (channel : Channel) (start : ℕ)
         (stations : List Present) → HasKindRanges item.kind → Each IsRanged stations → (first second : ShownAnswer) →
-        second_shown k loads faults attempt item channel start stations first ≡ Some second → IsShownTo first.burst second }
+        second_shown k loads faults attempt item channel start stations first ≡ Some second → IsShownTo first.burst false second }
     ensures silent { (hits : List Hit) (answer : Option Answer) → shown_answer hits answer ≡ None → (answer ≡ None) ⊎ HasNoWordLeft hits answer }
 {}

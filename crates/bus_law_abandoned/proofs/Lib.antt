@@ -1,0 +1,12 @@
+pub mod Ticks
+pub mod Table
+pub mod Holders
+pub mod Others
+pub mod Running
+pub mod Leaving
+pub mod Stations
+pub mod Speaker
+pub mod Due
+pub mod Message
+pub mod Abandoned
+pub mod Either

@@ -1,0 +1,4 @@
+pub mod Doubts
+pub mod OldAnswers
+pub mod Begun
+pub mod Told
