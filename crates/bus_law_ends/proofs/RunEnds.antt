@@ -1,4 +1,4 @@
--- The program's run of a plain plan ends in the tick that the message table says.
+-- The program's run of a plan ends in the tick that the message table says.
 use Rattle.std.proofs.Common.{◌≡◌, inl, inr, ℕ, ◌+◌, ◌*◌, ◌≤◌, ◌<◌, Bool, true, false, List, [], length, refl, sym, ap, ◌∙◌, arith}
 use Rattle.std.proofs.lemmas.Bool.Decides.{nat_tests}
 use Rattle.std.proofs.lemmas.Bool.{cases_lt}
@@ -18,7 +18,9 @@ use Rattle.bus_run.specs.Amounts.{most_attempts, most_ticks, frame_ticks}
 use Rattle.bus_run.specs.Deliveries.{delivering}
 use Rattle.bus_run.specs.Ends.{has_ended, is_outgrown}
 use Rattle.bus_run.specs.Stands.{EndsAfter}
+use Rattle.bus_model.proofs.RunEnds.{run-ends}
 use Rattle.bus_law_run.specs.WorldIsRun.{plan_end, WorldIsRun, IsWithin}
+use Rattle.bus_law_whole.proofs.EachWorld.{each-world}
 use Rattle.bus_law_ends.specs.Bounds.{HasTableBounds}
 use Rattle.bus_law_ends.specs.Told.{RunIsTold}
 use Rattle.bus_law_ends.proofs.Delivering.{delivering-few}
@@ -116,3 +118,7 @@ module _ (plan : PlanData) (accepted : IsAccepted plan) (is : WorldIsRun plan) w
   told ticks ends =
       let same : ticks ≡ plan_end plan = ends-with ticks ends in
       record { ends = same; log = ap (world_log LAG plan) same ∙ is.log; world = is }
+
+-- the run of an accepted plan
+pub run-told : (plan : PlanData) (ticks : ℕ) → IsAccepted plan → EndsAfter plan 0 ticks → RunIsTold plan ticks
+run-told plan ticks accepted = told plan accepted (each-world plan accepted (run-ends LAG [] plan)) ticks

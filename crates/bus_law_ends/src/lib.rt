@@ -3,4 +3,4 @@
 
 pub mod runs;
 
-pub use runs::{a_plain_run_is_told, the_bounds_are_the_tables};
+pub use runs::{a_run_is_told, the_bounds_are_the_tables};

@@ -8,19 +8,14 @@ ghost use Rattle.bus_line.specs.Channels.{bursts};
 ghost use Rattle.bus_line.specs.declared.cutter.TheConstants.{LAG};
 ghost use Rattle.bus_run.specs.Deliveries.{delivering};
 ghost use Rattle.bus_law_ends.specs.Bounds.{HasTableBounds};
-ghost use Rattle.bus_law_told.specs.Plain.{IsPlain};
 ghost use Rattle.bus_law_ends.specs.Told.{RunIsTold};
 ghost use Rattle.bus_run.specs.Stands.{EndsAfter};
 
-use bus_law_run::the_world_does_what_its_run_says;
-
-/// The program ends the run of an accepted plan in the tick that the message table says, where no message may be abandoned and none offers control:
-/// by the table's end, not at a bound on ticks, and no amount for which room is made is passed. The log is then that of the table's run.
-pub fn a_plain_run_is_told()
-    ensures { (plan : PlanData) (ticks : ℕ) → IsAccepted plan → IsPlain plan → EndsAfter plan 0 ticks → RunIsTold plan ticks }
-{
-    the_world_does_what_its_run_says();
-}
+/// The program ends the run of an accepted plan in the tick that the message table says: by the table's end, not at a bound on ticks, and no amount for
+/// which room is made is passed. The log is then that of the table's run, and in each tick the world does what that run says.
+pub fn a_run_is_told()
+    ensures { (plan : PlanData) (ticks : ℕ) → IsAccepted plan → EndsAfter plan 0 ticks → RunIsTold plan ticks }
+{}
 
 /// The bounds of the program's run are those of the message table, for every accepted plan. And in whatever world of whatever plan, terminals take blocks in
 /// no more ticks than bursts are found.

@@ -1,4 +1,4 @@
--- In the world of a run without offers each receive block stays, or becomes one that was sent, whole.
+-- In the world of a run each receive block stays, or becomes one that was sent, whole.
 use Rattle.std.proofs.Common.{◌≡◌, ◌⊎◌, inl, inr, ℕ, suc, ◌<◌, List, [], ◌∷◌, ◌++◌, length, Option, Some, None, ap, ◌∙◌, subst, arith}
 use Rattle.std.specs.Prelude.{filter_map, option_map}
 use Rattle.std.specs.List.{AllByRecursion as Each, cons_option}
@@ -10,17 +10,15 @@ use Rattle.bus_model.specs.Memory.{received_on}
 use Rattle.bus_model.specs.Message.{Delivered}
 use Rattle.bus_model.specs.Orders.{Taken}
 use Rattle.bus_model.specs.Starts.{starts}
-use Rattle.bus_model.specs.Terminal.{took_now}
 use Rattle.bus_model.specs.World.{is_present}
 use Rattle.bus_model.specs.WorldLog.{present_stations}
+use Rattle.bus_law_messages.proofs.Sending.{shown-long}
 use Rattle.bus_law_table.specs.Happened.{block_at, took_in, blocks_in as blocks_now, blocks_found}
 use Rattle.bus_law_table.proofs.Pairing.{Has, has-filter}
-use Rattle.bus_law_phases.specs.Passages.{IsOrderly}
 use Rattle.bus_law_phases.specs.Scenarios.{Scenario, IsPresentAt, shown_at, blocks_in, standing_of}
-use Rattle.bus_law_run.specs.Blocks.{taken_newest}
-use Rattle.bus_law_run.specs.WholeRun.{IsPlainScenario}
+use Rattle.bus_law_run.specs.Blocks.{taken_newest, IsHeard}
 use Rattle.bus_law_run.proofs.BlocksKept.{station-blocks}
-use Rattle.bus_law_run.proofs.HeardInWorld.{long, heard}
+use Rattle.bus_law_run.proofs.TickTaken.{taken-found}
 use Rattle.bus_law_run.proofs.Fronts.{blocks-front, front-each}
 
 -- ---- what holds of each item found
@@ -43,10 +41,13 @@ each-right P (x ∷ firsts) more all = each-right P firsts more all.1
 
 -- ---- one tick of one station
 
-module _ (w : Scenario) (is : IsPlainScenario w) (end : ℕ) (orderly : (i : ℕ) → i < end → IsOrderly w i) (P : Delivered → Type 0)
-    (all : Each P (blocks_in w (shown_at w end))) (t : ℕ) (early : t < end) (other : ℕ) (station : StationData) (here : IsPresentAt w other station) where
+module _ (w : Scenario) (end : ℕ) (P : Delivered → Type 0) (all : Each P (blocks_in w (shown_at w end))) (t : ℕ) (early : t < end) (other : ℕ)
+    (station : StationData) (here : IsPresentAt w other station) where
+  long : length (shown_at w t) ≡ t
+  long = shown-long w.lag w.plan w.loads w.outside w.absent t
+
   -- the newest tick
-  module _ (shown : Pair) (newest : shown_at w (suc t) ≡ shown ∷ shown_at w t) where
+  module _ (shown : Pair) (newest : shown_at w (suc t) ≡ shown ∷ shown_at w t) (heard : IsHeard w station shown (shown_at w t)) where
     abbrev past : List Pair
     past = shown_at w t
 
@@ -56,10 +57,10 @@ module _ (w : Scenario) (is : IsPlainScenario w) (end : ℕ) (orderly : (i : ℕ
     took block taken =
         let c : Channel = (standing_of w station (shown ∷ past)).channel in
         let now : took_in w.lag w.plan w.loads w.outside w.absent (shown ∷ past) t station ≡ Some (block_at t c station block) =
-        ap (option_map (block_at t c station)) (ap (took_now w.lag station.terminal w.loads) (heard w is end orderly t early other station here shown newest) ∙ taken) in
+        ap (option_map (block_at t c station)) (taken-found w station shown past heard block taken) in
         each-mapped P (took_in w.lag w.plan w.loads w.outside w.absent (shown ∷ past) t) (present_stations w.lag w.plan w.loads w.outside w.absent)
         station (block_at t c station block) (has-filter (is_present w.absent) w.plan.stations other station here.there here.present) now
-        (subst (λ n. Each P (blocks_now w.lag w.plan w.loads w.outside w.absent (shown ∷ past) n)) (long w is end orderly t early other station here)
+        (subst (λ n. Each P (blocks_now w.lag w.plan w.loads w.outside w.absent (shown ∷ past) n)) long
         (each-right P (blocks_in w past) (blocks_now w.lag w.plan w.loads w.outside w.absent (shown ∷ past) (length past))
         (subst (λ p. Each P (blocks_in w p)) newest (front-each P (blocks_in w (shown_at w (suc t))) (blocks_in w (shown_at w end))
         (blocks-front w (suc t) end (omega (arith, early))) all))))

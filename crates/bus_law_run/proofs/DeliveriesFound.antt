@@ -11,21 +11,18 @@ use Rattle.bus_base.specs.declared.samples.Pair.{Pair}
 use Rattle.bus_formats.specs.Accepted.{addresses}
 use Rattle.bus_formats.specs.Plans.{StationData}
 use Rattle.bus_formats.specs.declared.log.Delivery.{Delivery}
-use Rattle.bus_model.specs.Hearing.{Hearing}
 use Rattle.bus_model.specs.Message.{Delivered}
 use Rattle.bus_model.specs.Orders.{Taken}
 use Rattle.bus_model.specs.Starts.{starts}
-use Rattle.bus_model.specs.Terminal.{standing_after, took_now}
 use Rattle.bus_model.specs.World.{is_present, ticks_on}
 use Rattle.bus_model.specs.WorldLog.{present_stations}
 use Rattle.bus_law_plans.proofs.Stations.{Apart, apart-from}
 use Rattle.bus_law_table.specs.Happened.{block_at, took_in, blocks_in as blocks_now, blocks_found}
-use Rattle.bus_law_phases.specs.Passages.{IsOrderly}
 use Rattle.bus_law_phases.specs.Scenarios.{Scenario, IsPresentAt, shown_at, blocks_in}
-use Rattle.bus_law_run.specs.Blocks.{delivery_newest, deliveries_of}
-use Rattle.bus_law_run.specs.WholeRun.{IsPlainScenario}
-use Rattle.bus_law_run.proofs.FirstStands.{all-present}
-use Rattle.bus_law_run.proofs.HeardInWorld.{heard}
+use Rattle.bus_law_run.specs.Blocks.{deliveries_of, IsHeard}
+use Rattle.bus_law_run.specs.WholeRun.{IsAcceptedScenario}
+use Rattle.bus_law_run.proofs.FirstRests.{all-present}
+use Rattle.bus_law_run.proofs.TickTaken.{took-delivery}
 
 -- ---- one of many
 
@@ -78,8 +75,8 @@ module _ (f : StationData → Option Delivered) (named : (s : StationData) (d : 
 
 -- ---- tick by tick
 
-module _ (w : Scenario) (is : IsPlainScenario w) (end : ℕ) (orderly : (i : ℕ) → i < end → IsOrderly w i) (place : ℕ) (station : StationData)
-    (here : IsPresentAt w place station) where
+module _ (w : Scenario) (is : IsAcceptedScenario w) (present : w.absent ≡ []) (end place : ℕ) (station : StationData) (here : IsPresentAt w place station)
+    (heard : (t : ℕ) → t < end → (shown : Pair) → shown_at w (suc t) ≡ shown ∷ shown_at w t → IsHeard w station shown (shown_at w t)) where
   abbrev took : List Pair → ℕ → StationData → Option Delivered
   took past tick s = took_in w.lag w.plan w.loads w.outside w.absent past tick s
 
@@ -89,7 +86,7 @@ module _ (w : Scenario) (is : IsPlainScenario w) (end : ℕ) (orderly : (i : ℕ
   taken-named past tick s (Some taken) c d is = ap (λ (x : Delivered). x.address) (sym (same_Some (block_at tick c s taken) d is))
 
   stations-all : present_stations w.lag w.plan w.loads w.outside w.absent ≡ w.plan.stations
-  stations-all = ap (λ (absent : List ℕ). filter (is_present absent) w.plan.stations) is.present ∙ all-present w.plan.stations
+  stations-all = ap (λ (absent : List ℕ). filter (is_present absent) w.plan.stations) present ∙ all-present w.plan.stations
 
   found-now : (past : List Pair) (tick : ℕ) →
       found_at station.terminal.address (blocks_now w.lag w.plan w.loads w.outside w.absent past tick)
@@ -98,21 +95,6 @@ module _ (w : Scenario) (is : IsPlainScenario w) (end : ℕ) (orderly : (i : ℕ
       ap (λ ss. found_at station.terminal.address (filter_map (took past tick) ss)) stations-all
       ∙ found-own (took past tick) (λ s d told. taken-named past tick s _ _ d told) w.plan.stations place station
       (apart-from (addresses w.plan) is.accepted.apart) here.there
-
-  map-twice : (o : Option Taken) (tick : ℕ) (c : Channel) →
-      option_map (λ (d : Delivered). d.delivery) (option_map (block_at tick c station) o) ≡ option_map (λ taken. (block_at tick c station taken).delivery) o
-  map-twice None tick c = refl
-  map-twice (Some taken) tick c = refl
-
-  took-delivery : (t : ℕ) → t < end → (shown : Pair) → shown_at w (suc t) ≡ shown ∷ shown_at w t →
-      option_map (λ (d : Delivered). d.delivery) (took (shown ∷ shown_at w t) (length (shown_at w t)) station)
-      ≡ delivery_newest w.lag station (starts w.plan station) w.loads w.outside shown (shown_at w t)
-  took-delivery t early shown newest =
-      let past : List Pair = shown_at w t in
-      ap (λ (h : Hearing). option_map (λ (d : Delivered). d.delivery)
-      (option_map (block_at (length past) (standing_after w.lag station.terminal w.loads h).channel station) (took_now w.lag station.terminal w.loads h)))
-      (heard w is end orderly t early place station here shown newest)
-      ∙ map-twice _ (length past) _
 
   pub deliveries-found : (t : ℕ) → t ≤ end →
       found_at station.terminal.address (blocks_in w (shown_at w t)) ≡ deliveries_of w.lag station (starts w.plan station) w.loads w.outside (shown_at w t)
@@ -124,4 +106,5 @@ module _ (w : Scenario) (is : IsPlainScenario w) (end : ℕ) (orderly : (i : ℕ
       ∙ ap (λ ds. ds ++ found_at station.terminal.address (blocks_now w.lag w.plan w.loads w.outside w.absent (shown_at w (suc t)) (length past)))
       (deliveries-found t (omega (arith, early)))
       ∙ ap (λ ds. deliveries_of w.lag station (starts w.plan station) w.loads w.outside past ++ ds)
-      (found-now (shown_at w (suc t)) (length past) ∙ ap option_to_list (took-delivery t (omega (arith, early)) _ refl))
+      (found-now (shown_at w (suc t)) (length past)
+      ∙ ap option_to_list (took-delivery w station _ past (heard t (omega (arith, early)) _ refl)))

@@ -28,7 +28,7 @@ pub record HeardSince (past : List Pair) (ticks : List Moment) : Type 0 where
   pub all : past ≡ newer ++ older
   pub heard : (c : Channel) → heard_on c ticks ≡ on_channel c newer ++ quiet_ticks (length older)
 
-unheard-on : (c : Channel) (past : List Pair) → heard_on c (unheard_ticks past) ≡ quiet_ticks (length past)
+pub unheard-on : (c : Channel) (past : List Pair) → heard_on c (unheard_ticks past) ≡ quiet_ticks (length past)
 unheard-on A [] = refl
 unheard-on A (x ∷ past) = ap (λ xs. Quiet ∷ xs) (unheard-on A past)
 unheard-on B [] = refl
@@ -105,7 +105,7 @@ module _ (k : ℕ) (station : StationData) (starts : Bool) (loads : List TimedLo
 
 -- ---- a burst that ended among them was shown
 
-quiet-all : (n : ℕ) → quiet (quiet_ticks n) ≡ n
+pub quiet-all : (n : ℕ) → quiet (quiet_ticks n) ≡ n
 quiet-all zero = refl
 quiet-all (suc n) = ap suc (quiet-all n)
 
@@ -115,7 +115,7 @@ quiet-same (Plus ∷ xs) ys n short = refl
 quiet-same (Minus ∷ xs) ys n short = refl
 quiet-same (Quiet ∷ xs) ys n short = ap suc (quiet-same xs ys n (omega (arith, short)))
 
-quiet-long : (n : ℕ) → length (quiet_ticks n) ≡ n
+pub quiet-long : (n : ℕ) → length (quiet_ticks n) ≡ n
 quiet-long zero = refl
 quiet-long (suc n) = ap suc (quiet-long n)
 

@@ -1,9 +1,6 @@
-pub mod PlainEntries
 pub mod OwnStation
-pub mod NextStands
-pub mod GoesOn
-pub mod FirstStands
-pub mod EachStands
+pub mod Shows
+pub mod FirstRests
 pub mod RunOver
 pub mod LoadedStations
 pub mod LogFound
@@ -13,10 +10,9 @@ pub mod NextWaits
 pub mod BlocksTaken
 pub mod BlocksKept
 pub mod PlainEndings
+pub mod PlainEntries
 pub mod PlainCourses
-pub mod OneHand
-pub mod TickHeard
-pub mod HeardInWorld
+pub mod TickTaken
 pub mod BlocksInWorld
 pub mod DeliveriesFound
 pub mod HeardSince

@@ -1,25 +1,23 @@
 -- The log that is found in the world is that of its run by the message table.
-use Rattle.std.proofs.Common.{◌≡◌, ℕ, zero, suc, ◌+◌, ◌<◌, ◌≤◌, Bool, true, false, List, [], ◌++◌, length, map, refl, sym, ap, ◌∙◌, arith}
+use Rattle.std.proofs.Common.{◌≡◌, ℕ, zero, suc, ◌+◌, ◌<◌, ◌≤◌, Bool, true, false, List, length, map, refl, sym, ap, ◌∙◌, arith}
 use Rattle.std.proofs.lemmas.Bool.Decides.{nat_tests}
+use Rattle.std.proofs.lemmas.List.{append-nil}
 use Rattle.std.specs.Prelude.{◌||◌, nat_lt, if◌then◌else◌, reverse, flat_map}
 use Rattle.bus_base.specs.declared.samples.Channel.{Channel}
 use Rattle.bus_base.specs.declared.samples.Channel.TheVariants.{A, B}
 use Rattle.bus_base.specs.declared.samples.Drive.{Drive}
-use Rattle.bus_line.specs.Channels.{bursts}
 use Rattle.bus_formats.specs.Logs.{LogData}
 use Rattle.bus_formats.specs.declared.fault.Fault.{Fault}
 use Rattle.bus_model.specs.Log.{terminals, terminal_end, blocks_of, log_of}
 use Rattle.bus_model.specs.Run.{Run, run_end}
 use Rattle.bus_model.specs.Wire.{drivers}
 use Rattle.bus_model.specs.World.{ticks_on, drivers_in, is_clash, clashes}
-use Rattle.bus_model.specs.WorldLog.{attempts, log_found}
-use Rattle.bus_law_listing.specs.Listing.{found_in_order}
-use Rattle.bus_law_listing.proofs.Found.{found-same, listed-bursts}
+use Rattle.bus_model.specs.WorldLog.{log_found}
+use Rattle.bus_law_listing.proofs.Found.{listed-bursts}
 use Rattle.bus_law_listing.proofs.Words.{listed-words}
 use Rattle.bus_law_messages.proofs.Sending.{shown-long}
-use Rattle.bus_law_table.specs.Happened.{burst_found, blocks_found}
-use Rattle.bus_law_phases.specs.Scenarios.{Scenario, trace_at, shown_at, driven_at, attempts_in, blocks_in}
-use Rattle.bus_law_run.specs.RunStands.{RunStands}
+use Rattle.bus_law_phases.specs.Scenarios.{Scenario, trace_at, shown_at, driven_at, attempts_in}
+use Rattle.bus_law_run.specs.RunShows.{RunRests}
 use Rattle.bus_law_run.proofs.LoadedStations.{loaded-ends, loaded-blocks}
 
 -- ---- no clash
@@ -44,33 +42,6 @@ no-clashes w (suc t) alone =
     (no-clash w.plan.faults (driven_at w (suc t)) (λ c. alone t (omega arith) c))
     (no-clashes w t (λ i before c. alone i (omega (arith, before)) c))
 
--- ---- what came to pass since the beginning
-
-module _ (w : Scenario) (t : ℕ) (run : Run) (stands : RunStands w t run) where
-  no-attempts : attempts_in w (shown_at w 0) ≡ []
-  unfolding ticks_on attempts
-  no-attempts = refl
-
-  pub attempts-are : attempts_in w (shown_at w t) ≡ reverse run.attempts
-  attempts-are = stands.passage.attempts_are ∙ ap (λ xs. xs ++ reverse run.attempts) no-attempts
-
-  no-bursts : bursts w.lag (shown_at w 0) ≡ []
-  unfolding ticks_on bursts
-  no-bursts = refl
-
-  pub bursts-are : bursts w.lag (shown_at w t) ≡ map burst_found (reverse run.bursts)
-  bursts-are = stands.passage.bursts_are ∙ ap (λ xs. xs ++ map burst_found (reverse run.bursts)) no-bursts
-
-  no-blocks : blocks_in w (shown_at w 0) ≡ []
-  unfolding ticks_on blocks_found
-  no-blocks = refl
-
-  pub blocks-are : blocks_in w (shown_at w t) ≡ reverse run.deliveries
-  blocks-are = stands.passage.blocks_are ∙ ap (λ xs. xs ++ reverse run.deliveries) no-blocks
-
-  pub found-are : bursts w.lag (shown_at w t) ≡ found_in_order (map burst_found (reverse run.bursts))
-  found-are = sym (found-same w.lag (shown_at w t)) ∙ ap found_in_order bursts-are
-
 -- ---- the log
 
 same-log : (a b : LogData) → a.attempts ≡ b.attempts → a.words ≡ b.words → a.bursts ≡ b.bursts → a.terminals ≡ b.terminals → a.blocks ≡ b.blocks →
@@ -84,17 +55,17 @@ same-log a b one two three four five six seven =
     ∙ ap (λ x. record b { end = x; clashes = a.clashes }) six
     ∙ ap (λ x. record b { clashes = x }) seven
 
-module _ (w : Scenario) (run : Run) (small : w.lag ≤ 39) (stands : RunStands w (run_end run) run) where
+module _ (w : Scenario) (run : Run) (small : w.lag ≤ 39) (rests : RunRests w (run_end run) run) where
   abbrev end : ℕ
   end = run_end run
 
   pub log-found : log_found w.lag w.plan w.loads w.outside w.absent (trace_at w (run_end run)) ≡ log_of run
   log-found =
-      let found = found-are w end run stands in
+      let found = rests.shows.bursts_are in
       let tick : ℕ = length (shown_at w end) in
       same-log (log_found w.lag w.plan w.loads w.outside w.absent (trace_at w end)) (log_of run)
-      (attempts-are w end run stands) (listed-words w.lag (shown_at w end) (reverse run.bursts) found small stands.rested.rests)
-      (listed-bursts w.lag (shown_at w end) (reverse run.bursts) found) (ap (λ xs. map terminal_end (terminals xs)) stands.rested.are ∙ loaded-ends w.loads tick run.stations)
-      (ap (λ xs. flat_map blocks_of (terminals xs)) stands.rested.are ∙ loaded-blocks w.loads tick run.stations)
+      (sym (append-nil (attempts_in w (shown_at w end))) ∙ rests.shows.attempts_are) (listed-words w.lag (shown_at w end) (reverse run.bursts) found small rests.rested.rests)
+      (listed-bursts w.lag (shown_at w end) (reverse run.bursts) found) (ap (λ xs. map terminal_end (terminals xs)) rests.rested.are ∙ loaded-ends w.loads tick run.stations)
+      (ap (λ xs. flat_map blocks_of (terminals xs)) rests.rested.are ∙ loaded-blocks w.loads tick run.stations)
       (ap (λ n. record { 0 = n }) (shown-long w.lag w.plan w.loads w.outside w.absent end))
-      (no-clashes w end (λ i before c. (stands.passage.orderly i (omega arith) before).alone c))
+      (no-clashes w end (λ i before c. (rests.shows.orderly i before).alone c))

@@ -7,30 +7,27 @@ use Rattle.std.specs.List.{list_all}
 use Rattle.bus_base.specs.Samples.{quiet_pairs}
 use Rattle.bus_base.specs.declared.samples.Pair.{Pair}
 use Rattle.bus_line.specs.Channels.{quiet_both}
+use Rattle.bus_formats.specs.Accepted.{IsAccepted}
 use Rattle.bus_formats.specs.Plans.{StationData}
 use Rattle.bus_formats.specs.Times.{ending_quiet}
 use Rattle.bus_model.specs.Control.{taking_from}
 use Rattle.bus_model.specs.Course.{Course, quiet_from}
 use Rattle.bus_model.specs.Message.{Present}
-use Rattle.bus_model.specs.Run.{Run, next_in, next_by, next_item, most_attempts, run_of, run_end}
+use Rattle.bus_model.specs.Run.{Run, next_in, next_by, next_item, run_end}
 use Rattle.bus_model.specs.Starts.{Entry, Opening, usual, superseding, taking, has_items}
 use Rattle.bus_model.specs.World.{is_present, is_done, run_is_over}
 use Rattle.bus_law_messages.specs.Settled.{NoneStarts}
 use Rattle.bus_law_messages.proofs.Sending.{shown-long}
 use Rattle.bus_law_plans.specs.Entries.{IsRunOf}
-use Rattle.bus_law_plans.proofs.EachRun.{each-of-plan}
 use Rattle.bus_law_phases.specs.Passages.{Passage, nothing_happens}
 use Rattle.bus_law_phases.specs.Rests.{Rested}
-use Rattle.bus_law_phases.specs.Scenarios.{Scenario, trace_at, shown_at, course_of, IsPresentAt}
-use Rattle.bus_law_phases.proofs.Passing.{joined}
+use Rattle.bus_law_phases.specs.Scenarios.{Scenario, trace_at, shown_at, course_of, IsPresentAt, NoneTakesFrom}
 use Rattle.bus_law_phases.proofs.Silence.{quiet-within}
 use Rattle.bus_law_phases.proofs.SilencedRest.{rest-lasts}
 use Rattle.bus_law_phases.proofs.SilencedStart.{named-apart}
-use Rattle.bus_law_run.specs.RunStands.{run_happens, RunStands}
-use Rattle.bus_law_run.specs.WholeRun.{IsPlainScenario, run_in}
-use Rattle.bus_law_run.proofs.EachStands.{stands-each}
-use Rattle.bus_law_run.proofs.NextStands.{then-nothing}
+use Rattle.bus_law_run.specs.RunShows.{RunRests}
 use Rattle.bus_law_run.proofs.OwnStation.{own-station}
+use Rattle.bus_law_run.proofs.Shows.{shows-later}
 
 -- ---- nothing is left
 
@@ -48,24 +45,20 @@ all-so : {X : Type 0} (test : X → Bool) (xs : List X) → ((i : ℕ) (x : X) �
 all-so test [] each = refl
 all-so test (x ∷ xs) each = rw (each 0 x refl) (all-so test xs (λ i y there. each (suc i) y there))
 
--- ---- the run stands until it is over
+-- ---- all stays so until it is over
 
-module _ (w : Scenario) (t : ℕ) (run : Run) (is : IsPlainScenario w) (of : IsRunOf w.plan run) (stands : RunStands w t run)
-    (none : next_item run ≡ None) where
-  nothing-left : (course_of w stands.holder (shown_at w t)).left ≡ []
+module _ (w : Scenario) (t : ℕ) (run : Run) (accepted : IsAccepted w.plan) (stays : NoneTakesFrom w 0) (rests : RunRests w t run) (none : next_item run ≡ None) where
+  nothing-left : (course_of w rests.holder (shown_at w t)).left ≡ []
   nothing-left =
-      let apart = named-apart w.plan is.accepted stands.place stands.holder stands.rested.at.there in
-      let own = own-station w (trace_at w t) stands.place stands.holder run.stations stands.rested apart run.holder stands.holder_is in
+      let apart = named-apart w.plan accepted rests.place rests.holder rests.rested.at.there in
+      let own = own-station w (trace_at w t) rests.place rests.holder run.stations rests.rested apart run.holder rests.holder_is in
       ap (λ (q : Present). q.left) own.2 ∙ none-left own.0 own.0.left (ap next_by (sym own.1) ∙ none)
 
-  abbrev end : ℕ
-  end = run_end run
-
   abbrev n : ℕ
-  n = end - t
+  n = run_end run - t
 
-  until : t + n ≡ end
-  until = let soon = stands.soon in omega (arith, soon)
+  until : t + n ≡ run_end run
+  until = let soon = rests.soon in omega (arith, soon)
 
   nothing-starts : (past : List Pair) (c : Course) (m : ℕ) → c.left ≡ [] → NoneStarts c past m
   nothing-starts past c m empty entry later left = absurd (no-entry c.left entry later empty left)
@@ -73,37 +66,32 @@ module _ (w : Scenario) (t : ℕ) (run : Run) (is : IsPlainScenario w) (of : IsR
       no-entry : (xs : List Entry) (x : Entry) (ys : List Entry) → xs ≡ [] → xs ≡ x ∷ ys → ⊥
       no-entry xs x ys is are = cc
 
-  lasts : (shown_at w (t + n) ≡ quiet_pairs n ++ shown_at w t) × Rested w (trace_at w (t + n)) stands.place stands.holder run.stations
-      × (course_of w stands.holder (shown_at w (t + n)) ≡ course_of w stands.holder (shown_at w t))
+  lasts : (shown_at w (t + n) ≡ quiet_pairs n ++ shown_at w t) × Rested w (trace_at w (t + n)) rests.place rests.holder run.stations
+      × (course_of w rests.holder (shown_at w (t + n)) ≡ course_of w rests.holder (shown_at w t))
       × (quiet_from (shown_at w (t + n)) ≡ quiet_from (shown_at w t)) × Passage w t (t + n) nothing_happens
   lasts =
-      let quiet = stands.quiet in
-      rest-lasts w t n stands.place stands.holder run.stations stands.rested (nothing-starts (shown_at w t) (course_of w stands.holder (shown_at w t)) n nothing-left)
-      (λ other st at tick low. is.stays other st at tick (omega arith)) (inr (omega (arith, until, quiet)))
+      let quiet = rests.quiet in
+      rest-lasts w t n rests.place rests.holder run.stations rests.rested (nothing-starts (shown_at w t) (course_of w rests.holder (shown_at w t)) n nothing-left)
+      (λ other st at tick low. stays other st at tick (omega arith)) (inr (omega (arith, until, quiet)))
 
-  stands-then : RunStands w (t + n) run
-  stands-then = record {
-    place = stands.place;
-    holder = stands.holder;
-    holder_is = stands.holder_is;
+  rests-then : RunRests w (t + n) run
+  rests-then = record {
+    place = rests.place;
+    holder = rests.holder;
+    holder_is = rests.holder_is;
     rested = lasts.1;
-    opening = ap (λ (d : Course). d.opening) lasts.2 ∙ stands.opening;
-    retry = ap (λ (d : Course). d.retry) lasts.2 ∙ stands.retry;
-    origin = ap (λ (d : Course). d.origin) lasts.2 ∙ stands.origin;
-    runs_on = stands.runs_on;
-    quiet = lasts.3 ∙ stands.quiet;
+    opening = ap (λ (d : Course). d.opening) lasts.2 ∙ rests.opening;
+    quiet = lasts.3 ∙ rests.quiet;
     soon = omega (arith, until);
-    early = nothing-starts (shown_at w (t + n)) (course_of w stands.holder (shown_at w (t + n))) 0
-        (ap (λ (d : Course). d.left) lasts.2 ∙ nothing-left);
-    passage = subst (Passage w 0 (t + n)) (then-nothing (run_happens run)) (joined w 0 t (t + n) (run_happens run) nothing_happens stands.passage lasts.4);
+    shows = shows-later w t (t + n) run [] rests.shows lasts.4;
   }
 
-  pub stands-over : RunStands w end run
-  stands-over = subst (λ u. RunStands w u run) until stands-then
+  pub rests-over : RunRests w (run_end run) run
+  rests-over = subst (λ u. RunRests w u run) until rests-then
 
 -- ---- then it is over
 
-module _ (w : Scenario) (run : Run) (is : IsPlainScenario w) (of : IsRunOf w.plan run) (stands : RunStands w (run_end run) run)
+module _ (w : Scenario) (run : Run) (accepted : IsAccepted w.plan) (stays : NoneTakesFrom w 0) (of : IsRunOf w.plan run) (rests : RunRests w (run_end run) run)
     (none : next_item run ≡ None) where
   abbrev past : List Pair
   past = shown_at w (run_end run)
@@ -112,11 +100,11 @@ module _ (w : Scenario) (run : Run) (is : IsPlainScenario w) (of : IsRunOf w.pla
   done station = is_done w.lag w.plan w.loads w.outside w.absent past station
 
   abbrev c : Course
-  c = course_of w stands.holder past
+  c = course_of w rests.holder past
 
   never-taking : (tick : ℕ) → c.opening ≡ taking tick → ⊥
   never-taking tick here =
-      let some : IsSome (next_item run) = of.taken tick (sym stands.opening ∙ here) in none-there (next_item run) none some
+      let some : IsSome (next_item run) = of.taken tick (sym rests.opening ∙ here) in none-there (next_item run) none some
     where
       none-there : {X : Type 0} (o : Option X) → o ≡ None → IsSome o → ⊥
       none-there o is some = absurd (cc)
@@ -124,25 +112,25 @@ module _ (w : Scenario) (run : Run) (is : IsPlainScenario w) (of : IsRunOf w.pla
   abbrev done_by : Bool → Bool → Bool → Bool → Option ℕ → Bool
   done_by here holds idle some taken = not here || ((not holds || (idle && not some)) && is_none (if holds then taken else None))
 
-  holder-done : done stands.holder ≡ true
+  holder-done : done rests.holder ≡ true
   holder-done =
-      ap (λ b. done_by b c.holds (is_none c.runs) (has_items c.left) (taking_from (length past) c.opening)) stands.rested.at.present
-      ∙ ap (λ b. done_by true b (is_none c.runs) (has_items c.left) (taking_from (length past) c.opening)) stands.rested.holds
-      ∙ ap (λ o. done_by true true (is_none o) (has_items c.left) (taking_from (length past) c.opening)) stands.rested.idle
-      ∙ ap (λ l. done_by true true true (has_items l) (taking_from (length past) c.opening)) (nothing-left w (run_end run) run is of stands none)
+      ap (λ b. done_by b c.holds (is_none c.runs) (has_items c.left) (taking_from (length past) c.opening)) rests.rested.at.present
+      ∙ ap (λ b. done_by true b (is_none c.runs) (has_items c.left) (taking_from (length past) c.opening)) rests.rested.holds
+      ∙ ap (λ o. done_by true true (is_none o) (has_items c.left) (taking_from (length past) c.opening)) rests.rested.idle
+      ∙ ap (λ l. done_by true true true (has_items l) (taking_from (length past) c.opening)) (nothing-left w (run_end run) run accepted stays rests none)
       ∙ ap (λ o. done_by true true true false o) (not-taken c.opening (length past) never-taking)
 
-  serving-done : (other : ℕ) (station : StationData) → IsPresentAt w other station → other ≢ stands.place → done station ≡ true
+  serving-done : (other : ℕ) (station : StationData) → IsPresentAt w other station → other ≢ rests.place → done station ≡ true
   serving-done other station at apart =
       let d : Course = course_of w station past in
       ap (λ b. done_by b d.holds (is_none d.runs) (has_items d.left) (taking_from (length past) d.opening)) at.present
       ∙ ap (λ b. done_by true b (is_none d.runs) (has_items d.left) (taking_from (length past) d.opening))
-      (stands.rested.others other station at apart).serves.serves
+      (rests.rested.others other station at apart).serves.serves
 
   present-done : (other : ℕ) (station : StationData) → IsPresentAt w other station → done station ≡ true
-  present-done other station at = elim (cases_eq other stands.place) [
-    | inl same ↦ (let there : slice_get w.plan.stations stands.place ≡ Some station = ap (slice_get w.plan.stations) (sym same) ∙ at.there in
-        ap done (sym (same_Some stands.holder station (sym stands.rested.at.there ∙ there))) ∙ holder-done)
+  present-done other station at = elim (cases_eq other rests.place) [
+    | inl same ↦ (let there : slice_get w.plan.stations rests.place ≡ Some station = ap (slice_get w.plan.stations) (sym same) ∙ at.there in
+        ap done (sym (same_Some rests.holder station (sym rests.rested.at.there ∙ there))) ∙ holder-done)
     | inr apart ↦ serving-done other station at apart
   ]
 
@@ -157,7 +145,7 @@ module _ (w : Scenario) (run : Run) (is : IsPlainScenario w) (of : IsRunOf w.pla
   quiet-long =
       let long = shown-long w.lag w.plan w.loads w.outside w.absent (run_end run) in
       let within = quiet-within past in
-      let quiet = stands.quiet in
+      let quiet = rests.quiet in
       omega (arith, long, within, quiet)
 
   long-enough : nat_le ending_quiet (quiet_both past) ≡ true
@@ -166,21 +154,3 @@ module _ (w : Scenario) (run : Run) (is : IsPlainScenario w) (of : IsRunOf w.pla
   pub is-over : run_is_over w.lag w.plan w.loads w.outside w.absent (run_end run) ≡ true
   is-over =
       ap (λ b. b && list_all done w.plan.stations) long-enough ∙ all-so done w.plan.stations each-done
-
--- ---- the run of a plan
-
--- at last no item is left
-module _ (w : Scenario) (is : IsPlainScenario w) (none : next_item (run_in w) ≡ None) where
-  run-of : IsRunOf w.plan (run_in w)
-  unfolding run_of
-  run-of = each-of-plan w.lag w.plan w.loads (most_attempts w.plan) is.accepted
-
-  run-stands : (t : ℕ) × RunStands w t (run_in w)
-  unfolding run_of
-  run-stands = stands-each w is (most_attempts w.plan)
-
-  pub at-end : RunStands w (run_end (run_in w)) (run_in w)
-  at-end = stands-over w run-stands.0 (run_in w) is run-of run-stands.1 none
-
-  pub over-at-end : run_is_over w.lag w.plan w.loads w.outside w.absent (run_end (run_in w)) ≡ true
-  over-at-end = is-over w (run_in w) is run-of at-end none

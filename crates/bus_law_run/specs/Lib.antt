@@ -1,5 +1,4 @@
-pub mod RunStands
+pub mod RunShows
 pub mod WholeRun
 pub mod WorldIsRun
 pub mod Blocks
-pub mod Hands

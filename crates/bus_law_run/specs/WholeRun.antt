@@ -1,18 +1,14 @@
 -- Buses of which the whole run is told.
-use Rattle.std.specs.Prelude.{◌≡◌, []}
+use Rattle.std.specs.Prelude.{◌≡◌}
 use Rattle.bus_formats.specs.Accepted.{IsAccepted}
 use Rattle.bus_model.specs.Run.{Run, run_of}
 use Rattle.bus_law_plans.specs.Memories.{AreBlocks}
 use Rattle.bus_law_phases.specs.Scenarios.{Scenario, NoneTakesFrom}
-use Rattle.bus_law_told.specs.Plain.{IsPlain}
 
--- an accepted, plain plan at the product's lag, all stations of which are present; none takes control by itself, and the blocks that are put up for
--- sending have words of sixteen bits
-pub record IsPlainScenario (w : Scenario) : Type 0 where
+-- an accepted plan at the product's lag; no station takes control by itself, and the blocks that are put up for sending have words of sixteen bits
+pub record IsAcceptedScenario (w : Scenario) : Type 0 where
   pub lag : w.lag ≡ 3
   pub accepted : IsAccepted w.plan
-  pub plain : IsPlain w.plan
-  pub present : w.absent ≡ []
   pub stays : NoneTakesFrom w 0
   pub blocks : AreBlocks w.loads
 

@@ -1,0 +1,14 @@
+pub mod BurstsInOrder
+pub mod MoreShown
+pub mod MessagesBeside
+pub mod Passes
+pub mod MomentStation
+pub mod HasBegun
+pub mod NextStands
+pub mod Begins
+pub mod EachStands
+pub mod AcceptsAlone
+pub mod TicksHeard
+pub mod MessagesTold
+pub mod WholeRun
+pub mod EachWorld
