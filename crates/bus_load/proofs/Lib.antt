@@ -1,0 +1,13 @@
+pub mod OnTime
+pub mod FramesFit
+pub mod FewWords
+pub mod Prompt
+pub mod Punctual
+pub mod Begins
+pub mod Keeping
+pub mod Limits
+pub mod Stepping
+pub mod Whole
+pub mod Verdicts
+pub mod Written
+pub mod Quiet

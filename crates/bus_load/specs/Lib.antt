@@ -1,0 +1,4 @@
+pub mod Load
+pub mod InTime
+pub mod Lines
+pub mod Silence
