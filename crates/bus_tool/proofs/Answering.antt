@@ -16,7 +16,7 @@ use Rattle.bus_tool.specs.declared.text.Text.{Text}
 use Rattle.bus_tool.specs.declared.text.Text.TheVariants.{Report, Capture}
 
 -- a text that isn't too long and describes a plan is not refused
-accepted-input : (input : List ℕ) (plan : PlanData) → length input ≤ 4194304 → plan_of_bytes input ≡ Ok plan → input_refusal input ≡ None
+pub accepted-input : (input : List ℕ) (plan : PlanData) → length input ≤ 4194304 → plan_of_bytes input ≡ Ok plan → input_refusal input ≡ None
 accepted-input input plan short read =
     let test : nat_lt 4194304 (length input) ≡ false = grind (arith, nat_tests, short) in
     rw (test, read) refl

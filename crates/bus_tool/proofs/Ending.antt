@@ -20,7 +20,7 @@ use Rattle.bus_tool.proofs.Answering.{untouched}
 use Rattle.bus_tool.proofs.TablesRun.{tables-run}
 
 -- an input is refused or not
-one_refusal : (o : Option (List ℕ)) (text : List ℕ) → o ≡ Some text → o ≡ None → ⊥
+pub one_refusal : (o : Option (List ℕ)) (text : List ℕ) → o ≡ Some text → o ≡ None → ⊥
 one_refusal o text some none = cc
 
 -- some bytes, all of what was told or one more than the most
@@ -32,7 +32,7 @@ front_or_all input rest short whole = elim (cases_lt 4194304 (length input)) [
 ]
 
 -- the bytes that were read of a source that tells them
-told_input : (told input : List ℕ) (left1 : Option (List ℕ)) → ReadsInput (Some told) left1 input → input ≡ take 4194305 told
+pub told_input : (told input : List ℕ) (left1 : Option (List ℕ)) → ReadsInput (Some told) left1 input → input ≡ take 4194305 told
 told_input told input None r = absurd r.consumed
 told_input told input (Some rest) r =
     let front : input ≡ take 4194305 (input ++ rest) = front_or_all input rest r.short r.whole in

@@ -4,5 +4,6 @@ pub mod Ending
 pub mod Ranges
 pub mod Serving
 pub mod WrittenLines
-pub mod Without
 pub mod TablesRun
+pub mod Surveying
+mod Loading

@@ -1,13 +1,11 @@
 -- The objects that a run takes and leaves, and its report.
-use Rattle.std.proofs.Common.{◌≡◌, ℕ, ◌<◌, ◌≤◌, List, [], Option, inl}
-use Rattle.std.specs.Prelude.{All}
-use Rattle.std.proofs.lemmas.List.Elements.{All-nil}
+use Rattle.std.proofs.Common.{◌≡◌, ℕ, ◌≤◌, List, [], Option, inl}
 use Rattle.std.specs.Io.KnownBytes.{Appends}
 use Rattle.bus_formats.specs.Logs.{LogData}
 use Rattle.bus_formats.specs.Plans.{PlanData}
 use Rattle.bus_formats.specs.declared.log.Delivery.{Delivery}
 use Rattle.bus_line.specs.declared.cutter.TheConstants.{LAG}
-use Rattle.bus_model.specs.World.{world, ticks_on}
+use Rattle.bus_model.specs.World.{world}
 use Rattle.bus_report.specs.Report.{report_text}
 use Rattle.bus_run.specs.Deliveries.{Serves}
 use Rattle.bus_run.specs.Kept.{places, IsPicked}
@@ -16,16 +14,6 @@ use Rattle.bus_run.specs.declared.finished.FinishedBus.{FinishedBus}
 use Rattle.bus_tool.specs.Answers.{AnswersRun, Wrote}
 use Rattle.bus_tool.specs.Texts.{text_of}
 use Rattle.bus_tool.specs.declared.text.Text.TheVariants.{Report}
-
--- where no place is named, none is needed
-pub no-place : (n : ℕ) (plan : PlanData) → places plan ≡ [] → All (λ place. place < n) (places plan)
-no-place n plan none = rw none (All-nil (λ place. place < n))
-
--- before the first tick
-pub as-begun : (plan : PlanData) (before told : List (Option (List Delivery))) (spare : List ℕ) → Serves plan before [] told spare →
-    Serves plan before (world LAG plan [] [] [] 0) told spare
-unfolding ticks_on
-as-begun plan before told spare serves = serves
 
 -- the answer to a plan that was run for its report
 pub served-after : (held0 held1 : Option (List ℕ)) (sink0 sink1 status : ℕ) (bus : Option FinishedBus)

@@ -3,14 +3,18 @@ use Rattle.std.specs.Prelude.{◌≡◌, ℕ, ◌≤◌, ◌⊎◌, List, Option
 use Rattle.std.specs.Io.KnownBytes.{Appends}
 use Rattle.bus_outside.specs.Causes.{Rose, GrowsByFront}
 use Rattle.bus_formats.specs.Accepted.{IsAccepted}
-use Rattle.bus_formats.specs.Plans.{PlanData}
+use Rattle.bus_formats.specs.Plans.{PlanData, without_subsystems}
 use Rattle.bus_formats.specs.declared.log.Delivery.{Delivery}
 use Rattle.bus_line.specs.declared.cutter.TheConstants.{LAG}
+use Rattle.bus_load.specs.Lines.{load_text}
 use Rattle.bus_model.specs.WorldLog.{world_log}
 use Rattle.bus_plan.specs.PlanOf.{plan_of_bytes}
 use Rattle.bus_run.specs.Stands.{EndsAfter, FinishedStands}
 use Rattle.bus_run.specs.declared.finished.FinishedBus.{FinishedBus}
-use Rattle.bus_tool.specs.Due.{input_refusal}
+use Rattle.bus_survey.specs.Surveys.{Surveys, SurveyHasCause}
+use Rattle.bus_survey.specs.declared.surveyed.Surveyed.{Surveyed}
+use Rattle.bus_survey.specs.declared.surveyed.Surveyed.TheVariants.{Done, NoMemory, WriteFault}
+use Rattle.bus_tool.specs.Due.{input_refusal, load_refusal}
 use Rattle.bus_tool.specs.Objects.{AreSame, AfterRun, AfterWant}
 use Rattle.bus_tool.specs.Texts.{plan_run, text_of, status_of}
 use Rattle.bus_tool.specs.declared.text.Text.{Text}
@@ -83,3 +87,56 @@ module _ (held0 held1 : Option (List ℕ)) (sink0 sink1 : ℕ) (status : ℕ) (b
   pub record Answers (text : Text) (input : List ℕ) : Type 0 where
     pub later : sink0 ≤ sink1
     pub answer : RanPlan text input ⊎ WasRefusedWith input ⊎ WantedMemory text
+
+-- ---- a plan whose faults are surveyed
+
+-- the status after a survey that ended so
+abbrev pub status_after_survey : Surveyed → ℕ
+status_after_survey Done = 0
+status_after_survey NoMemory = 6
+status_after_survey WriteFault = 5
+
+module _ (held0 held1 : Option (List ℕ)) (sink0 sink1 : ℕ) (status : ℕ) where
+  -- the faults of the plan that was read were surveyed
+  pub record SurveyedPlan (input : List ℕ) : Type 0 where
+    pub accepted : input_refusal input ≡ None
+    pub plan : PlanData
+    pub read : plan_of_bytes input ≡ Ok plan
+    pub is_accepted : IsAccepted plan
+    pub surveyed : Surveyed
+    pub surveys : Surveys (without_subsystems plan) plan.faults held0 held1 surveyed
+    pub cause : SurveyHasCause sink0 sink1 surveyed
+    pub status_is : status ≡ status_after_survey surveyed
+
+  -- the input was refused with its line
+  pub record RefusedSurvey (input : List ℕ) : Type 0 where
+    pub line : List ℕ
+    pub due : input_refusal input ≡ Some line
+    pub wrote : WroteDue held0 held1 sink0 sink1 status 3 line
+
+  -- the answer to an input
+  pub record AnswersSurvey (input : List ℕ) : Type 0 where
+    pub later : sink0 ≤ sink1
+    pub answer : SurveyedPlan input ⊎ RefusedSurvey input ⊎ ((status ≡ 6) × (held1 ≡ held0))
+
+-- ---- a plan whose schedule is reckoned
+
+module _ (held0 held1 : Option (List ℕ)) (sink0 sink1 : ℕ) (status : ℕ) where
+  -- the text of the plan that was read was written, or a front of it
+  pub record ReckonedPlan (input : List ℕ) : Type 0 where
+    pub accepted : load_refusal input ≡ None
+    pub plan : PlanData
+    pub read : plan_of_bytes input ≡ Ok plan
+    pub is_accepted : IsAccepted plan
+    pub wrote : WroteDue held0 held1 sink0 sink1 status 0 (load_text plan)
+
+  -- the input was refused with its line
+  pub record RefusedLoad (input : List ℕ) : Type 0 where
+    pub line : List ℕ
+    pub due : load_refusal input ≡ Some line
+    pub wrote : WroteDue held0 held1 sink0 sink1 status 3 line
+
+  -- the answer to an input
+  pub record AnswersLoad (input : List ℕ) : Type 0 where
+    pub later : sink0 ≤ sink1
+    pub answer : ReckonedPlan input ⊎ RefusedLoad input ⊎ ((status ≡ 6) × (held1 ≡ held0))

@@ -1,13 +1,20 @@
 -- What the program owes for an input: the line of a refusal, or the text of the run of the plan that was read.
-use Rattle.std.specs.Prelude.{◌≡◌, ℕ, ◌⊎◌, nat_lt, if◌then◌else◌, List, [], ◌++◌, length, codes, Option, Some, None, Result, Ok, Err}
+use Rattle.std.specs.Prelude.{◌≡◌, ℕ, ◌⊎◌, nat_lt, if◌then◌else◌, List, [], ◌++◌, length, codes, decimal, Option, Some, None, Result, Ok, Err}
+use Rattle.std.specs.Option.{option_or}
 use Rattle.bus_capture.specs.declared.refusal.CaptureRefusal.{CaptureRefusal}
 use Rattle.bus_capture.specs.declared.refusal.CaptureRefusal.TheVariants.{Header, Byte, HalfTick, Long}
-use Rattle.bus_formats.specs.Plans.{PlanData}
+use Rattle.bus_formats.specs.Logs.{LogData}
+use Rattle.bus_formats.specs.Plans.{PlanData, without_subsystems}
 use Rattle.bus_formats.specs.declared.log.Delivery.{Delivery}
+use Rattle.bus_load.specs.Lines.{load_text}
+use Rattle.bus_load.specs.Load.{first_offer}
+use Rattle.bus_load.specs.declared.reckoned.OfferPlace.{OfferPlace}
 use Rattle.bus_plan.specs.PlanOf.{plan_of_bytes}
 use Rattle.bus_plan.specs.Refusals.{number_of, name_of, place_of}
 use Rattle.bus_plan.specs.declared.refusal.PlanRefusal.{PlanRefusal}
 use Rattle.bus_run.specs.Stands.{EndsAfter}
+use Rattle.bus_survey.specs.Lines.{survey_text}
+use Rattle.bus_survey.specs.Surveys.{AreRunsWith}
 use Rattle.bus_text.specs.Texts.{line, number, spaced}
 use Rattle.bus_tool.specs.Objects.{AreSame, AfterRun}
 use Rattle.bus_tool.specs.Texts.{plan_run, text_of}
@@ -64,3 +71,43 @@ module _ (told0 told1 : List (Option (List Delivery))) (said0 said1 : List (List
   abbrev pub IsDue : Text → List ℕ → List ℕ → Type 0
   IsDue text input bytes =
       ((input_refusal input ≡ Some bytes) × AreSame told0 told1 said0 said1 spare0 spare1) ⊎ ((input_refusal input ≡ None) × IsRunOf text input bytes)
+
+-- the bytes are the text of a survey of the plan that was read
+pub record IsSurveyOf (input bytes : List ℕ) : Type 0 where
+  pub plan : PlanData
+  pub read : plan_of_bytes input ≡ Ok plan
+  pub logs : List LogData
+  pub runs : AreRunsWith (without_subsystems plan) plan.faults logs
+  pub bytes_are : bytes ≡ survey_text logs
+
+-- bytes that are due for an input whose plan is surveyed: the line of a refusal, or the text of the survey
+abbrev pub IsSurveyDue : List ℕ → List ℕ → Type 0
+IsSurveyDue input bytes = (input_refusal input ≡ Some bytes) ⊎ ((input_refusal input ≡ None) × IsSurveyOf input bytes)
+
+-- ---- a plan whose schedule is reckoned
+
+-- the line of a plan of which the station that starts offers control: at the first item that does
+abbrev pub offer_line : OfferPlace → List ℕ
+offer_line place = line (codes "load refused 1 offer station." ++ decimal place.station ++ codes ".frame." ++ decimal place.frame ++ codes ".item." ++ decimal place.item)
+
+abbrev pub offer_refusal_by : Option OfferPlace → Option (List ℕ)
+offer_refusal_by None = None
+offer_refusal_by (Some place) = Some (offer_line place)
+
+abbrev pub offer_refusal : Result PlanData PlanRefusal → Option (List ℕ)
+offer_refusal (Err refusal) = None
+offer_refusal (Ok plan) = offer_refusal_by (first_offer plan)
+
+-- the line with which an input is refused whose schedule is to be reckoned, if it is
+abbrev pub load_refusal : List ℕ → Option (List ℕ)
+load_refusal input = option_or (input_refusal input) (offer_refusal (plan_of_bytes input))
+
+-- the bytes are the text of the schedule of the plan that was read
+pub record IsLoadOf (input bytes : List ℕ) : Type 0 where
+  pub plan : PlanData
+  pub read : plan_of_bytes input ≡ Ok plan
+  pub bytes_are : bytes ≡ load_text plan
+
+-- bytes that are due for an input whose schedule is reckoned: the line of a refusal, or that text
+abbrev pub IsLoadDue : List ℕ → List ℕ → Type 0
+IsLoadDue input bytes = (load_refusal input ≡ Some bytes) ⊎ ((load_refusal input ≡ None) × IsLoadOf input bytes)

@@ -1,7 +1,8 @@
 -- What each answer of the top call shows: how it came about, what was read, what was written, and what became of the objects for
 -- subsystems. Everything is said over what the source had left and the sink held before and after, where they tell it, over their counts of
 -- faults, and over what the objects told and said and their room before and after, in their order.
-use Rattle.std.specs.Prelude.{◌≡◌, ℕ, ◌+◌, ◌≤◌, ◌⊎◌, List, take, length, Option, Some, None, Ok}
+use Rattle.std.specs.List.{AllByRecursion as Each}
+use Rattle.std.specs.Prelude.{◌≡◌, ℕ, ◌+◌, ◌≤◌, ◌⊎◌, List, [], take, length, Option, Some, None, Ok}
 use Rattle.std.specs.Io.KnownBytes.{Consumes, IsAtEnd, Appends}
 use Rattle.bus_base.specs.declared.samples.Pair.{Pair}
 use Rattle.bus_line.specs.declared.cutter.TheConstants.{LAG}
@@ -10,18 +11,26 @@ use Rattle.bus_monitor.specs.Progress.{word_lines, message_lines}
 use Rattle.bus_monitor.specs.Scribes.{IsListed, ListingHasCause}
 use Rattle.bus_monitor.specs.declared.listing.Listing.{Listing}
 use Rattle.bus_monitor.specs.declared.listing.Listing.TheVariants.{Done, Refused, ReadFault, WriteFault}
-use Rattle.bus_formats.specs.Plans.{PlanData}
+use Rattle.bus_formats.specs.Logs.{LogData}
+use Rattle.bus_formats.specs.Plans.{PlanData, without_subsystems}
 use Rattle.bus_formats.specs.declared.log.Delivery.{Delivery}
+use Rattle.bus_formats.specs.Accepted.{IsAccepted}
+use Rattle.bus_formats.specs.declared.fault.Fault.{Fault}
+use Rattle.bus_load.specs.InTime.{with_faults, AddsNone, FramesStartAsPlanned}
+use Rattle.bus_load.specs.Lines.{load_text}
+use Rattle.bus_load.specs.Load.{verdict}
+use Rattle.bus_load.specs.declared.reckoned.Verdict.TheVariants.{Long, Short}
 use Rattle.bus_model.specs.WorldLog.{world_log}
 use Rattle.bus_outside.specs.Causes.{Rose, GrowsByFront}
 use Rattle.bus_plan.specs.PlanOf.{plan_of_bytes}
 use Rattle.bus_run.specs.Stands.{EndsAfter, FinishedStands}
 use Rattle.bus_run.specs.declared.finished.FinishedBus.{FinishedBus}
-use Rattle.bus_law_told.specs.Plain.{IsPlain}
+use Rattle.bus_survey.specs.Lines.{survey_text}
+use Rattle.bus_survey.specs.Surveys.{AreRunsWith, SurveyedBefore}
 use Rattle.bus_tool.specs.Answers.{WroteDue}
-use Rattle.bus_tool.specs.Due.{limit, input_refusal, words_refused, capture_refusal_line, IsDue}
+use Rattle.bus_tool.specs.Due.{limit, input_refusal, words_refused, capture_refusal_line, load_refusal, IsDue, IsSurveyDue, IsLoadDue}
 use Rattle.bus_tool.specs.Objects.{AreSame, AfterRun, AfterWant}
-use Rattle.bus_tool.specs.Tables.{IsTablesRun}
+use Rattle.bus_tool.specs.Tables.{IsTablesRun, AreTablesRuns}
 use Rattle.bus_tool.specs.Texts.{plan_run, text_of, status_of}
 use Rattle.bus_tool.specs.declared.words.Command.{Command}
 use Rattle.bus_tool.specs.declared.words.Command.TheVariants as commands
@@ -84,9 +93,9 @@ module _ (left0 left1 held0 held1 : Option (List ℕ)) (source0 source1 sink0 si
     pub objects : AfterRun told0 told1 said0 said1 spare0 spare1 text (plan_run text plan) ticks
     pub status_is : status ≡ status_of (world_log LAG (plan_run text plan) ticks)
     pub written : Appends held0 held1 (text_of text (plan_run text plan) ticks said1)
-    -- where no message may be abandoned and none offers control, the run is that of the message table: it ends there, its text and status are
-    -- those of the table's log, and no two stations ever drove one channel
-    pub tables : IsPlain plan → IsTablesRun text (plan_run text plan) ticks said1 status
+    -- the run is that of the message table: it ends there, its text and status are those of the table's log, and no two stations ever drove one
+    -- channel
+    pub tables : IsTablesRun text (plan_run text plan) ticks said1 status
 
   -- the input was read and is refused, the refusal's line was written, and the objects stay
   pub record WasRefused : Type 0 where
@@ -144,6 +153,119 @@ module _ (left0 left1 held0 held1 : Option (List ℕ)) (source0 source1 sink0 si
     -- where all is fine it is done, unless memory is wanting
     pub complete : IsFine → (status ≡ 0) ⊎ (status ≡ 1) ⊎ (status ≡ 6)
 
+  -- ---- the command that surveys the faults of a plan
+
+  -- the input was read, its plan was run once for each of its faults to the end, without subsystems and with that fault alone, and the whole text
+  -- of the logs of these runs was written
+  pub record Surveyed : Type 0 where
+    pub input : List ℕ
+    pub read : ReadsInput left0 left1 input
+    pub accepted : input_refusal input ≡ None
+    pub plan : PlanData
+    pub is_plan : plan_of_bytes input ≡ Ok plan
+    pub logs : List LogData
+    pub runs : AreRunsWith (without_subsystems plan) plan.faults logs
+    pub written : Appends held0 held1 (survey_text logs)
+    -- each of the runs is that of the message table
+    pub tables : AreTablesRuns (without_subsystems plan) plan.faults logs
+
+  -- a front of the bytes that were due was written
+  pub record StoppedSurvey : Type 0 where
+    pub input : List ℕ
+    pub read : ReadsInput left0 left1 input
+    pub bytes : List ℕ
+    pub due : IsSurveyDue input bytes
+    pub front : GrowsByFront held0 held1 bytes
+
+  -- memory was wanting for the run of a fault, and the lines of the faults before it were written
+  pub record RanOutBetween : Type 0 where
+    pub input : List ℕ
+    pub read : ReadsInput left0 left1 input
+    pub accepted : input_refusal input ≡ None
+    pub plan : PlanData
+    pub is_plan : plan_of_bytes input ≡ Ok plan
+    pub before : SurveyedBefore (without_subsystems plan) plan.faults held0 held1
+
+  pub record EndsSurvey : Type 0 where
+    pub range : status ≤ 6
+    pub later_source : source0 ≤ source1
+    pub later_sink : sink0 ≤ sink1
+    -- there is never a bus, and the objects stay
+    pub no_bus : bus ≡ None
+    pub objects : AreSame told0 told1 said0 said1 spare0 spare1
+    -- 0: the input was read to its end, its plan was run for each fault, and the whole text was written
+    pub ran : status ≡ 0 → Surveyed
+    -- 1: never, however the items ended
+    pub well : status ≡ 1 → ⊥
+    -- 2: only for words without a meaning
+    pub meant : status ≡ 2 → ⊥
+    -- 3: the input was read and is refused
+    pub refused : status ≡ 3 → WasRefused
+    -- 4: only where the source failed; nothing was written
+    pub read_fault : status ≡ 4 → Rose source0 source1 × DidNothing
+    -- 5: only where the sink failed; a front of the bytes that were due was written
+    pub write_fault : status ≡ 5 → Rose sink0 sink1 × StoppedSurvey
+    -- 6: want of memory, and nothing was written, or whole lines of the faults before
+    pub memory : status ≡ 6 → DidNothing ⊎ RanOutBetween
+    -- where all is fine it is done, unless memory is wanting
+    pub complete : IsFine → (status ≡ 0) ⊎ (status ≡ 6)
+
+  -- ---- the command that reckons a schedule
+
+  -- the input was read, and the whole text of its plan's schedule was written. What the text promises holds: where it says that each frame fits in the long
+  -- reckoning, each starts as planned in the run of the plan by the message table, with whatever faults it is accepted; where it says the short one,
+  -- with whatever faults but those that add words
+  pub record Reckoned : Type 0 where
+    pub input : List ℕ
+    pub read : ReadsInput left0 left1 input
+    pub accepted : load_refusal input ≡ None
+    pub plan : PlanData
+    pub is_plan : plan_of_bytes input ≡ Ok plan
+    pub written : Appends held0 held1 (load_text plan)
+    pub long : verdict plan ≡ Long → (faults : List Fault) → IsAccepted (with_faults faults plan) → FramesStartAsPlanned LAG [] (with_faults faults plan)
+    pub short : verdict plan ≡ Short → (faults : List Fault) → IsAccepted (with_faults faults plan) → Each AddsNone faults →
+        FramesStartAsPlanned LAG [] (with_faults faults plan)
+
+  -- the input was read and is refused, and the refusal's line was written
+  pub record WasRefusedLoad : Type 0 where
+    pub input : List ℕ
+    pub read : ReadsInput left0 left1 input
+    pub line : List ℕ
+    pub due : load_refusal input ≡ Some line
+    pub written : Appends held0 held1 line
+
+  -- a front of the bytes that were due was written
+  pub record StoppedLoad : Type 0 where
+    pub input : List ℕ
+    pub read : ReadsInput left0 left1 input
+    pub bytes : List ℕ
+    pub due : IsLoadDue input bytes
+    pub front : GrowsByFront held0 held1 bytes
+
+  pub record EndsLoad : Type 0 where
+    pub range : status ≤ 6
+    pub later_source : source0 ≤ source1
+    pub later_sink : sink0 ≤ sink1
+    -- there is never a bus, and the objects stay
+    pub no_bus : bus ≡ None
+    pub objects : AreSame told0 told1 said0 said1 spare0 spare1
+    -- 0: the input was read to its end, and the whole text was written
+    pub reckoned : status ≡ 0 → Reckoned
+    -- 1: never, whatever the verdict
+    pub well : status ≡ 1 → ⊥
+    -- 2: only for words without a meaning
+    pub meant : status ≡ 2 → ⊥
+    -- 3: the input was read and is refused
+    pub refused : status ≡ 3 → WasRefusedLoad
+    -- 4: only where the source failed; nothing was written
+    pub read_fault : status ≡ 4 → Rose source0 source1 × DidNothing
+    -- 5: only where the sink failed; a front of the bytes that were due was written
+    pub write_fault : status ≡ 5 → Rose sink0 sink1 × StoppedLoad
+    -- 6: want of memory, and nothing was written
+    pub memory : status ≡ 6 → DidNothing
+    -- where all is fine, and no offer is made, it is done, unless memory is wanting
+    pub complete : (fine : IsFine) → load_refusal (take (limit + 1) fine.told) ≡ None → (status ≡ 0) ⊎ (status ≡ 6)
+
   -- ---- the commands that list a capture
 
   -- the objects stay
@@ -158,5 +280,7 @@ module _ (left0 left1 held0 held1 : Option (List ℕ)) (source0 source1 sink0 si
   Ends None = EndsUnmeant
   Ends (Some commands.Run) = EndsRun Report
   Ends (Some commands.Capture) = EndsRun Capture
+  Ends (Some commands.Survey) = EndsSurvey
+  Ends (Some commands.Load) = EndsLoad
   Ends (Some commands.Decode) = EndsListing (word_lines LAG) (word_listing LAG)
   Ends (Some commands.Messages) = EndsListing (message_lines LAG) (message_listing LAG)

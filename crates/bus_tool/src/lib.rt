@@ -6,9 +6,11 @@ mod capture_writer;
 mod ended;
 mod input;
 mod listing;
+mod load;
 mod outcome;
 mod refusals;
 mod run;
+mod survey;
 #[cfg(test)]
 mod tests;
 mod text;

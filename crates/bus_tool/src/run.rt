@@ -50,8 +50,8 @@ pub fn answer<K: Sink>(
     }
 }
 
-// Writes the line of a refusal.
-fn refuse<K: Sink>(line: &[u8], sink: &mut K) -> Ended
+/// Writes the line of a refusal.
+pub fn refuse<K: Sink>(line: &[u8], sink: &mut K) -> Ended
     ensures { AnswersRefused (K.held sink.old) (K.held sink.new) (K.faults sink.old) (K.faults sink.new) result.status result.bus line.now }
 {
     match sink.write(line) {

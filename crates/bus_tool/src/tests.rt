@@ -71,6 +71,31 @@ const CAPTURE: &str = "1553 capture 1
 ........................................................................................................................
 ";
 
+// Two faults of that plan, of which the second names an attempt that doesn't come.
+const FAULTS: &str = "[[fault]]
+attempt = 1
+part = \"command\"
+kind = \"flip\"
+word = 2
+at = [6]
+[[fault]]
+attempt = 2
+part = \"first\"
+kind = \"cut\"
+after = 0
+";
+
+const SURVEY: &str =
+    "fault 1 clear 0 sent 0 declined 0 passed 0 illegal 0 busy 0 no-response 1 bad-reply 0 abandoned 0 yielded 0
+fault 2 clear 1 sent 0 declined 0 passed 0 illegal 0 busy 0 no-response 0 bad-reply 0 abandoned 0 yielded 0
+surveyed 2
+";
+
+// The command of three words, 20 dead ticks and a status; then 40 quiet ticks, and no other frame.
+const LOAD: &str = "frame 1 ticks 0 short 220 long 3260
+load long
+";
+
 // The words of the 141 ticks that stand in its first 300 bytes.
 const WORDS_OF_300_BYTES: &str = "word 8 A c 2822
 word 48 A d 0102
@@ -122,7 +147,7 @@ struct Streams {
 }
 
 impl Streams {
-    fn steady(rt: &HostRuntime, most: usize) -> Streams {
+    fn steady(rt: &impl AllocGlobal, most: usize) -> Streams {
         Streams {
             most,
             failing_reads: Vec::new(rt.alloc()),
@@ -131,7 +156,7 @@ impl Streams {
     }
 
     // The read and the write with these numbers fail; numbers begin with 1.
-    fn failing(rt: &HostRuntime, most: usize, read: u64, write: u64) -> Result<Streams, Fail> {
+    fn failing(rt: &impl AllocGlobal, most: usize, read: u64, write: u64) -> Result<Streams, Fail> {
         let mut streams = Streams::steady(rt, most);
         streams.failing_reads.push(read)?;
         streams.failing_writes.push(write)?;
@@ -270,6 +295,10 @@ fn streams_that_fail(rt: HostRuntime) -> Result<(), Fail> {
         ("run", "version =", 4096, 0, 1, 5, ""),
         ("capture", PLAN, 10, 2, 0, 4, ""),
         ("capture", PLAN, 4096, 0, 1, 5, ""),
+        ("survey", PLAN, 10, 2, 0, 4, ""),
+        ("survey", "version =", 4096, 0, 1, 5, ""),
+        ("load", PLAN, 10, 2, 0, 4, ""),
+        ("load", "version =", 4096, 0, 1, 5, ""),
         ("decode", CAPTURE, 300, 2, 0, 4, WORDS_OF_300_BYTES),
         ("decode", CAPTURE, 4096, 0, 1, 5, ""),
         ("messages", CAPTURE, 300, 2, 0, 4, ""),
@@ -297,34 +326,58 @@ fn streams_that_fail(rt: HostRuntime) -> Result<(), Fail> {
     Ok(())
 }
 
-#[test]
-fn each_write_of_a_report_fails(rt: HostRuntime) -> Result<(), Fail> {
-    let report = report_with(&rt, "")?;
+// Calls the top call with this word, over this plan, so that each write of this text fails in turn, and then none.
+fn each_write_fails(
+    rt: &(impl Abort + AllocGlobal),
+    word: &str,
+    plan: &str,
+    text: &str,
+) -> Result<(), Fail> {
     let mut written = String::new(rt.alloc());
     let mut write = 1u64;
-    for line in report.lines() {
-        let left = run_over(
-            &rt,
-            "run",
-            PLAN,
-            Streams::failing(&rt, 4096, 0, write)?,
-            true,
-        )?;
-        assert_eq!(rt; left.ended.status, 5, "write {write}");
-        assert_eq!(rt; left.sink.bytes(), written.as_bytes(), "write {write}");
+    for line in text.lines() {
+        let left = run_over(rt, word, plan, Streams::failing(rt, 4096, 0, write)?, true)?;
+        assert_eq!(rt; left.ended.status, 5, "{word}, write {write}");
+        assert_eq!(rt;
+            left.sink.bytes(),
+            written.as_bytes(),
+            "{word}, write {write}"
+        );
         written.push_str(line)?;
         written.push_str("\n")?;
         write = write.saturating_add(1);
     }
-    let left = run_over(
-        &rt,
-        "run",
-        PLAN,
-        Streams::failing(&rt, 4096, 0, write)?,
-        true,
-    )?;
-    assert_eq!(rt; left.ended.status, 0, "a report has a write for each line");
+    let left = run_over(rt, word, plan, Streams::failing(rt, 4096, 0, write)?, true)?;
+    assert_eq!(rt; left.ended.status, 0, "there is a write for each line");
     assert_eq!(rt; left.sink.bytes(), written.as_bytes());
+    Ok(())
+}
+
+#[test]
+fn each_write_of_a_report_fails(rt: HostRuntime) -> Result<(), Fail> {
+    let report = report_with(&rt, "")?;
+    each_write_fails(&rt, "run", PLAN, report.as_str())
+}
+
+#[test]
+fn each_write_of_a_survey_fails(rt: HostRuntime) -> Result<(), Fail> {
+    let mut plan = plan_with(&rt, "recorder")?;
+    plan.push_str(FAULTS)?;
+    each_write_fails(&rt, "survey", plan.as_str(), SURVEY)
+}
+
+#[test]
+fn each_write_of_a_load_fails(rt: HostRuntime) -> Result<(), Fail> {
+    each_write_fails(&rt, "load", PLAN, LOAD)
+}
+
+#[test]
+fn a_survey_of_no_fault(rt: HostRuntime) -> Result<(), Fail> {
+    let left = run_over(&rt, "survey", PLAN, Streams::steady(&rt, 10), true)?;
+    assert_eq!(rt; left.ended.status, 0, "memory is ample");
+    assert_eq!(rt; left.ended.bus.is_some(), false);
+    assert_eq!(rt; left.sink.bytes(), b"surveyed 0\n".as_slice());
+    assert_eq!(rt; left.objects, 62);
     Ok(())
 }
 

@@ -8,7 +8,9 @@ ghost use Rattle.bus_tool.specs.Meaning.{meaning};
 use crate::ended::Ended;
 use crate::input::{Stop, read_input};
 use crate::listing::{decode, messages};
+use crate::load::load_input;
 use crate::run::answer;
+use crate::survey::survey_input;
 use crate::text::Text;
 use crate::words::{Command, command_of};
 use bus_outside::{Sink, Source};
@@ -20,12 +22,13 @@ use std::alloc::Global;
 /// The words are the command line without the program's name. Of the 62 objects, places 0 to 30 serve as the recorders of the
 /// addresses 0 to 30, and places 31 to 61 as the tallies of these addresses.
 ///
-/// - 0: the input was read to its end and the whole text was written; of a run 1, where the last attempt of some item didn't go well.
+/// - 0: the input was read to its end and the whole text was written; of a run 1, where the last attempt of some item didn't go well, and of a survey
+///   or a load never.
 /// - 2: the words have no meaning, and nothing was read.
 /// - 3: the input is refused; a plan was read whole, a capture to its first wrong byte, and the lines of the ticks before it were written.
 /// - 4: the source failed; a listing's lines so far were written, and nothing else.
 /// - 5: the sink failed, and a front of the text that was due was written.
-/// - 6: memory ran out, and nothing was written; never for a listing.
+/// - 6: memory ran out, and nothing was written, or by a survey the lines of the faults before; never for a listing.
 ///
 /// After `run` of an accepted plan, with 0, 1 or 5, those objects are left that the plan names, in order of address, and each has taken
 /// the blocks that its terminal took. In all other cases the objects tell and say what they did and have the room that they had; only where
@@ -52,6 +55,14 @@ pub fn bus_tool<S: Source, K: Sink>(
         },
         Some(Command::Run) => run(Text::Report, alloc, source, sink, subsystems),
         Some(Command::Capture) => run(Text::Capture, alloc, source, sink, subsystems),
+        Some(Command::Survey) => Ended {
+            status: survey_input(alloc, source, sink),
+            bus: None,
+        },
+        Some(Command::Load) => Ended {
+            status: load_input(alloc, source, sink),
+            bus: None,
+        },
         Some(Command::Decode) => Ended {
             status: decode(source, sink),
             bus: None,

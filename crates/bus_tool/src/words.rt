@@ -9,6 +9,10 @@ pub enum Command {
     Run,
     /// Read a plan, run it without its subsystems, and write the capture of what both channels show.
     Capture,
+    /// Read a plan, run it without its subsystems once for each of its faults with that fault alone, and write a line for each of these runs.
+    Survey,
+    /// Read a plan, and write what each frame of the station that starts takes at most, and whether each next one starts in time.
+    Load,
     /// Read a capture, and write the listing of its valid words.
     Decode,
     /// Read a capture, and write the listing of its messages.
@@ -33,6 +37,12 @@ fn command_named(word: &str) -> Option<Command>
     }
     if word == "capture" {
         return Some(Command::Capture);
+    }
+    if word == "survey" {
+        return Some(Command::Survey);
+    }
+    if word == "load" {
+        return Some(Command::Load);
     }
     if word == "decode" {
         return Some(Command::Decode);

@@ -1,6 +1,7 @@
 use Rattle.std.proofs.Common.{arith}
 use Rattle.bus_run.proofs.AcceptedLaws.{places-below}
-use Rattle.bus_tool.proofs.Serving.{as-begun, served-after}
+use Rattle.bus_survey.proofs.Beginning.{as-begun}
+use Rattle.bus_tool.proofs.Serving.{served-after}
 use Rattle.bus_tool.proofs.run.report_run.Goals as goal
 
 pub prepare-requires-clause-places : goal.prepare-requires-clause-places

@@ -1,6 +1,6 @@
 use Rattle.bus_run.proofs.AcceptedLaws.{places-without}
 use Rattle.bus_tool.proofs.Answering.{reports, captures}
-use Rattle.bus_tool.proofs.Without.{accepted-without}
+use Rattle.bus_survey.proofs.WithoutSubsystems.{accepted-without}
 use Rattle.bus_tool.proofs.run.run_plan.Goals as goal
 
 pub capture_run-requires-clause-accepted : goal.capture_run-requires-clause-accepted
