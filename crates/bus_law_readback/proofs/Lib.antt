@@ -1,0 +1,5 @@
+pub mod AlikeTerminal
+pub mod AlikeStation
+pub mod AlikeBus
+pub mod CaptureRead
+pub mod CallsJoined
