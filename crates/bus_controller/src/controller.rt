@@ -7,7 +7,7 @@ ghost use Rattle.bus_formats.specs.Plans.{StationData};
 ghost use Rattle.bus_model.specs.Starts.{has_items};
 ghost use Rattle.bus_model.specs.Course.{Take, course, drive_course};
 ghost use Rattle.bus_controller.specs.Stands.{told};
-ghost use Rattle.bus_controller.specs.Steps.{next_of_state, taken_by};
+ghost use Rattle.bus_controller.specs.Steps.{next_of_state, serves, taken_by};
 ghost use Rattle.bus_controller.specs.AgendaOf.{IsAgendaOf};
 ghost use Rattle.bus_controller.specs.ControllerStands.{ControllerStands, ControllerKeeps};
 ghost use Rattle.bus_receiver.specs.Cuts.{CuttersHear};
@@ -165,7 +165,8 @@ impl Controller {
 
     /// Whether it has no control.
     pub fn is_yielded(&self) -> bool
-        ensures { (station : StationData) (starts : Bool) (takes : List Take) (past : List Pair) → ControllerKeeps LAG station starts takes self.now past →
+        ensures state { result ≡ serves self.now.state }
+        ensures holds { (station : StationData) (starts : Bool) (takes : List Take) (past : List Pair) → ControllerKeeps LAG station starts takes self.now past →
             result ≡ not (course LAG station starts takes past).holds }
     {
         self.state.serves()

@@ -2,7 +2,7 @@
 //!
 //! An ear keeps at most `MOST_SLOTS` words of the burst that runs, however long it runs: the longest tail that any command wants, or the
 //! longest answer of a relay's transmitter, has 33 words, so that more of them mean nothing but too many.
-ghost use Rattle.std.specs.Prelude.{◌≡◌, ◌≤◌, ◌<◌, ◌+◌, ◌-◌, ◌*◌, ◌^◌, ℕ, List, [], ◌∷◌, ◌++◌, length, take, Option, Some, None, Bool, true, false, if◌then◌else◌};
+ghost use Rattle.std.specs.Prelude.{◌≡◌, ◌≤◌, ◌<◌, ◌+◌, ◌-◌, ◌*◌, ◌^◌, ℕ, List, [], ◌∷◌, ◌++◌, length, take, Option, Some, None, is_some, Bool, true, false, if◌then◌else◌};
 ghost use Rattle.bus_base.specs.declared.samples.Sample.{Sample};
 ghost use Rattle.bus_line.specs.Past.{quiet_ticks, slot_now};
 ghost use Rattle.bus_line.specs.Cutting.{cut_now};
@@ -203,7 +203,8 @@ impl Ear {
     /// Whether the channel is ignored in the next tick.
     #[inline(always)]
     pub fn is_ignored(&self) -> bool
-        ensures { (own : ℕ) (heard : List Sample) (sent addressed : Option ℕ) → EarStands LAG MOST_SLOTS own self.now heard sent addressed →
+        ensures counts { result ≡ is_some self.now.sending }
+        ensures ignores { (own : ℕ) (heard : List Sample) (sent addressed : Option ℕ) → EarStands LAG MOST_SLOTS own self.now heard sent addressed →
             result ≡ ignored_from LAG heard sent }
     {
         self.sending.is_some()

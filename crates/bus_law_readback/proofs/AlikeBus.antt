@@ -1,7 +1,7 @@
 -- A bus does the same in each tick with and without the subsystems that its plan names.
-use Rattle.std.proofs.Common.{◌≡◌, inl, inr, ℕ, zero, suc, Bool, true, false, not, List, [], ◌∷◌, map, refl, sym, ap, ◌∙◌, subst, arith}
+use Rattle.std.proofs.Common.{◌≡◌, inl, inr, ℕ, zero, suc, Bool, true, false, not, List, [], ◌∷◌, map, refl, sym, ap, ◌∙◌, arith}
 use Rattle.std.proofs.lemmas.Bool.{cases_lt}
-use Rattle.std.specs.Prelude.{◌&&◌, ◌||◌, ◌↔◌, nat_le, if◌then◌else◌, is_none}
+use Rattle.std.specs.Prelude.{◌&&◌, ◌||◌, nat_le, if◌then◌else◌, is_none}
 use Rattle.std.specs.List.{list_all}
 use Rattle.bus_base.specs.declared.samples.Drive.{Drive}
 use Rattle.bus_base.specs.declared.samples.Drive.TheVariants.{Silent}
@@ -11,15 +11,12 @@ use Rattle.bus_line.specs.declared.cutter.TheConstants.{LAG}
 use Rattle.bus_formats.specs.Accepted.{IsAccepted}
 use Rattle.bus_formats.specs.Plans.{StationData, PlanData, without_subsystem, without_subsystems}
 use Rattle.bus_formats.specs.Times.{ending_quiet}
-use Rattle.bus_model.proofs.RunEnds.{run-ends}
 use Rattle.bus_model.specs.Control.{OutsideTake, takes_control, is_idle}
 use Rattle.bus_model.specs.Memory.{TimedLoad}
 use Rattle.bus_model.specs.Starts.{starts}
 use Rattle.bus_model.specs.World.{Trace, is_present, drive_after, shown_next, next_tick, ticks_on, trace, world, is_done, run_is_over}
-use Rattle.bus_run.specs.Stands.{EndsAfter}
-use Rattle.bus_law_ends.proofs.RunEnds.{run-told, goes-on, ends-there}
 use Rattle.bus_law_run.specs.WorldIsRun.{plan_end, WorldIsRun}
-use Rattle.bus_law_whole.proofs.EachWorld.{each-world}
+use Rattle.bus_run.proofs.TableRun.{of-plan}
 use Rattle.bus_survey.proofs.WithoutSubsystems.{accepted-without}
 use Rattle.bus_law_readback.proofs.AlikeStation.{drives-next-same, idle-same, takes-control-same}
 
@@ -77,9 +74,6 @@ module _ (k : ℕ) (plan : PlanData) (loads : List TimedLoad) (outside : List Ou
 
 -- ---- the end of the run of an accepted plan
 
-of-plan : (plan : PlanData) → IsAccepted plan → WorldIsRun plan
-of-plan plan accepted = each-world plan accepted (run-ends LAG [] plan)
-
 -- two runs that are over in the same ticks end in the same one
 same-end : (a b : PlanData) → WorldIsRun a → WorldIsRun b →
     ((t : ℕ) → run_is_over LAG a [] [] [] t ≡ run_is_over LAG b [] [] [] t) → plan_end a ≡ plan_end b
@@ -91,20 +85,7 @@ same-end a b of-a of-b same = elim (cases_lt (plan_end a) (plan_end b)) [
   ]
 ]
 
--- the run of an accepted plan ends where the table's does
-ends-at : (plan : PlanData) → IsAccepted plan → EndsAfter plan 0 (plan_end plan)
-ends-at plan accepted =
-    let is : WorldIsRun plan = of-plan plan accepted in
-    record { later = omega arith; before = λ t from early. goes-on plan accepted is t early; ended = ends-there plan accepted is }
-
--- a plan that ends where another one does has its number of ticks
-ends-as : (a b : PlanData) (ticks : ℕ) → IsAccepted a → IsAccepted b → plan_end a ≡ plan_end b → EndsAfter a 0 ticks → EndsAfter b 0 ticks
-ends-as a b ticks accepted-a accepted-b same ends =
-    subst (EndsAfter b 0) (sym ((run-told a ticks accepted-a ends).ends ∙ same)) (ends-at b accepted-b)
-
-pub ends-same : (plan : PlanData) (ticks : ℕ) → IsAccepted plan → EndsAfter (without_subsystems plan) 0 ticks ↔ EndsAfter plan 0 ticks
-ends-same plan ticks accepted =
+pub ends-same : (plan : PlanData) → IsAccepted plan → plan_end (without_subsystems plan) ≡ plan_end plan
+ends-same plan accepted =
     let bare = without_subsystems plan in
-    let of-bare : IsAccepted bare = accepted-without plan accepted in
-    let same : plan_end bare ≡ plan_end plan = same-end bare plan (of-plan bare of-bare) (of-plan plan accepted) (over-same LAG plan [] [] []) in
-    (λ ends. ends-as bare plan ticks of-bare accepted same ends, λ ends. ends-as plan bare ticks accepted of-bare (sym same) ends)
+    same-end bare plan (of-plan bare (accepted-without plan accepted)) (of-plan plan accepted) (over-same LAG plan [] [] [])

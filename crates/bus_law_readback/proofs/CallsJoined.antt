@@ -8,9 +8,9 @@ use Rattle.bus_capture.proofs.ReaderLaws.{refused-stays}
 use Rattle.bus_capture.specs.Readings.{answer_now, end_after, ticks_in, place_after, tick_now}
 use Rattle.bus_capture.specs.declared.refusal.CaptureRefusal.{CaptureRefusal}
 use Rattle.bus_formats.specs.Accepted.{IsAccepted}
-use Rattle.bus_formats.specs.Plans.{PlanData, without_subsystems}
+use Rattle.bus_formats.specs.Plans.{PlanData}
 use Rattle.bus_line.specs.declared.cutter.TheConstants.{LAG}
-use Rattle.bus_model.specs.WorldLog.{world_log}
+use Rattle.bus_model.specs.Log.{run_log}
 use Rattle.bus_monitor.specs.Listings.{word_listing}
 use Rattle.bus_monitor.specs.Progress.{word_lines, end_text}
 use Rattle.bus_monitor.specs.Scribes.{IsListed, IsRefusedBy}
@@ -19,15 +19,13 @@ use Rattle.bus_monitor.specs.declared.listing.Listing.TheVariants as listings
 use Rattle.bus_plan.proofs.AcceptedLaws.{accepted_result}
 use Rattle.bus_plan.specs.PlanOf.{plan_of_bytes}
 use Rattle.bus_plan.specs.declared.refusal.PlanRefusal.{PlanRefusal}
-use Rattle.bus_run.specs.Stands.{EndsAfter}
+use Rattle.bus_law_run.specs.WorldIsRun.{plan_end}
 use Rattle.bus_text.specs.Texts.{word_line}
-use Rattle.bus_law_ends.proofs.RunEnds.{run-told}
 use Rattle.bus_tool.specs.Due.{limit, too_long, input_refusal, refusal_of}
 use Rattle.bus_tool.specs.Ends.{ReadsInput, StatusAfter}
 use Rattle.bus_tool.specs.Texts.{plan_run, text_of}
 use Rattle.bus_tool.specs.declared.text.Text.TheVariants as texts
 use Rattle.bus_tool.specs.declared.words.Command.TheVariants as commands
-use Rattle.bus_law_readback.proofs.AlikeBus.{ends-same}
 use Rattle.bus_law_readback.proofs.CaptureRead.{never-both, read-end, listing-done}
 use Rattle.bus_law_readback.specs.Calls.{Call, EndsAs, AreJoined, ListTheSameWords}
 
@@ -80,12 +78,12 @@ never-refused text ticks (Some rest) input refusal good consumed (inr (at, other
 
 -- ---- the listing of a capture
 
-module _ (plan : PlanData) (ticks : ℕ) (accepted : IsAccepted plan) (ends : EndsAfter plan 0 ticks) (said : List (List ℕ)) where
+module _ (plan : PlanData) (accepted : IsAccepted plan) (said : List (List ℕ)) where
   abbrev text : List ℕ
-  text = text_of texts.Capture (plan_run texts.Capture plan) ticks said
+  text = text_of texts.Capture (plan_run texts.Capture plan) said
 
   abbrev listing : List ℕ
-  listing = flat_map word_line (world_log LAG plan ticks).words ++ end_text ticks
+  listing = flat_map word_line (run_log LAG plan).words ++ end_text (plan_end plan)
 
   module _ (left0 left1 held0 held1 : Option (List ℕ)) (sink0 sink1 status : ℕ) (had : left0 ≡ Some text) where
     pub by-listing : (held : Option (List ℕ)) (sink : ℕ) (l : Listing) → IsListed (word_lines LAG) (word_listing LAG) left0 left1 held0 held l →
@@ -93,10 +91,10 @@ module _ (plan : PlanData) (ticks : ℕ) (accepted : IsAccepted plan) (ends : En
     by-listing held sink (listings.Done n) listed answer =
         let input : listed.input ≡ text =
         whole-read text left1 listed.input (subst (λ l. Consumes l left1 listed.input) had listed.consumed) listed.ends.0 in
-        let wrote : Appends held0 held listing = (listing-done plan ticks accepted ends said left0 left1 held0 held n listed input).1 in
+        let wrote : Appends held0 held listing = (listing-done plan accepted said left0 left1 held0 held n listed input).1 in
         (λ refused. clash status 0 3 answer.0 refused (omega arith), λ done. subst (λ h. Appends held0 h listing) (sym answer.1) wrote)
     by-listing held sink (listings.Refused refusal) listed answer =
-        absurd (never-refused text ticks left1 listed.input refusal (read-end plan ticks accepted ends said)
+        absurd (never-refused text (plan_end plan) left1 listed.input refusal (read-end plan accepted said)
         (subst (λ l. Consumes l left1 listed.input) had listed.consumed) listed.ends.0)
     by-listing held sink listings.ReadFault listed answer =
         (λ refused. clash status 3 4 refused answer.0 (omega arith), λ done. absurd (clash status 0 4 done answer.0 (omega arith)))
@@ -122,16 +120,11 @@ joined plan_text ran captured decoded run-ends capture-ends decode-ends is =
     ∙ sym (input-whole plan_text ran.left0 ran.left1 r.input is.run_reads r.read r.accepted) in
     let plan : c.plan ≡ r.plan = ap (plan-or r.plan) (sym c.is_plan ∙ ap plan_of_bytes read ∙ r.is_plan) in
     let accepted : IsAccepted r.plan = accepted_result r.input (plan-read r.plan) r.is_plan in
-    let ends : EndsAfter r.plan 0 c.ticks =
-    (ends-same r.plan c.ticks accepted).0 (subst (λ (p : PlanData). EndsAfter (without_subsystems p) 0 c.ticks) plan c.ends) in
-    let ticks : c.ticks ≡ r.ticks = (run-told r.plan c.ticks accepted ends).ends ∙ sym (run-told r.plan r.ticks accepted r.ends).ends in
-    let wrote : captured.held1 ≡ Some (text_of texts.Capture (plan_run texts.Capture c.plan) c.ticks captured.said1) =
-    from-empty captured.held1 _ (subst (λ h. Appends h captured.held1 (text_of texts.Capture (plan_run texts.Capture c.plan) c.ticks captured.said1)) is.empty c.written) in
-    let had : decoded.left0 ≡ Some (text_of texts.Capture (plan_run texts.Capture r.plan) r.ticks captured.said1) =
-    is.decode_reads ∙ wrote
-    ∙ ap (λ (p : PlanData). Some (text_of texts.Capture (plan_run texts.Capture p) c.ticks captured.said1)) plan
-    ∙ ap (λ n. Some (text_of texts.Capture (plan_run texts.Capture r.plan) n captured.said1)) ticks in
+    let wrote : captured.held1 ≡ Some (text_of texts.Capture (plan_run texts.Capture c.plan) captured.said1) =
+    from-empty captured.held1 _ (subst (λ h. Appends h captured.held1 (text_of texts.Capture (plan_run texts.Capture c.plan) captured.said1)) is.empty c.written) in
+    let had : decoded.left0 ≡ Some (text_of texts.Capture (plan_run texts.Capture r.plan) captured.said1) =
+    is.decode_reads ∙ wrote ∙ ap (λ (p : PlanData). Some (text_of texts.Capture (plan_run texts.Capture p) captured.said1)) plan in
     let lists = decode-ends.lists in
-    let both = by-listing r.plan r.ticks accepted r.ends captured.said1 decoded.left0 decoded.left1 decoded.held0 decoded.held1 decoded.sink0 decoded.sink1
+    let both = by-listing r.plan accepted captured.said1 decoded.left0 decoded.left1 decoded.held0 decoded.held1 decoded.sink0 decoded.sink1
     decoded.status had lists.held lists.sink lists.listing lists.listed lists.answer in
-    record { plan = r.plan; ticks = r.ticks; report = r.written; accepted = both.0; listing = both.1 }
+    record { plan = r.plan; report = r.written; accepted = both.0; listing = both.1 }

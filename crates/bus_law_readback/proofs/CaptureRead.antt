@@ -11,25 +11,24 @@ use Rattle.bus_capture.specs.declared.reader.Place.{Place}
 use Rattle.bus_capture.specs.declared.reader.Place.TheVariants.{Between, Half, Refused}
 use Rattle.bus_capture.specs.declared.refusal.CaptureRefusal.{CaptureRefusal}
 use Rattle.bus_formats.specs.Accepted.{IsAccepted}
-use Rattle.bus_formats.specs.Plans.{PlanData}
+use Rattle.bus_formats.specs.Logs.{LogData}
+use Rattle.bus_formats.specs.Plans.{PlanData, without_subsystems}
 use Rattle.bus_line.specs.Channels.{valid}
 use Rattle.bus_line.specs.declared.cutter.TheConstants.{LAG}
 use Rattle.bus_model.specs.World.{world}
+use Rattle.bus_model.specs.Log.{run_log}
 use Rattle.bus_model.specs.WorldLog.{world_log}
 use Rattle.bus_monitor.specs.Listings.{heard_word, word_listing}
 use Rattle.bus_monitor.specs.Progress.{word_lines, end_text}
 use Rattle.bus_monitor.specs.Scribes.{IsListed, IsRefusedBy}
 use Rattle.bus_monitor.specs.declared.listing.Listing.TheVariants as listings
 use Rattle.bus_text.specs.Texts.{word_line}
-use Rattle.bus_run.specs.Stands.{EndsAfter}
+use Rattle.bus_law_run.specs.WorldIsRun.{plan_end}
 use Rattle.bus_run.proofs.BusLaws.{world-length}
-use Rattle.bus_law_ends.proofs.RunEnds.{run-told}
-use Rattle.bus_law_ends.specs.Told.{RunIsTold}
-use Rattle.bus_law_plans.proofs.Agreed.{agreed-all}
-use Rattle.bus_law_plans.proofs.EachRun.{plan-few}
+use Rattle.bus_run.proofs.TableRun.{of-plan, end-small}
 use Rattle.bus_tool.specs.Texts.{plan_run, text_of}
 use Rattle.bus_tool.specs.declared.text.Text.TheVariants as texts
-use Rattle.bus_law_readback.proofs.AlikeBus.{world-same}
+use Rattle.bus_law_readback.proofs.AlikeBus.{world-same, ends-same}
 
 -- ---- a capture is not too long
 
@@ -71,56 +70,52 @@ not-refused left bytes n refusal ended (inl byte) =
     never-both (place_after bytes) (tick_now bytes) (length bytes) (length (ticks_in bytes)) n refusal byte ended
 not-refused left bytes n refusal ended (inr (at, other)) = (let no : done-with n ≡ Err refusal = sym ended ∙ other in cc)
 
-module _ (plan : PlanData) (ticks : ℕ) (accepted : IsAccepted plan) (ends : EndsAfter plan 0 ticks) where
-  -- the run of an accepted plan has at most 2,703,360,088 ticks
-  ticks-few : ticks ≤ 2703360088
-  ticks-few =
-      let is : RunIsTold plan ticks = run-told plan ticks accepted ends in
-      let at = is.ends in
-      let last = is.world.ends in
-      let attempts = (plan-few plan accepted).0 in
-      let frames = (plan-few plan accepted).1 in
-      let same = agreed-all plan.stations in
-      omega (arith, at, last, attempts, frames, same)
+module _ (plan : PlanData) (accepted : IsAccepted plan) where
+  abbrev ticks : ℕ
+  ticks = plan_end plan
 
-  -- the ticks that are written are those of the plan with its subsystems
-  written : (said : List (List ℕ)) → text_of texts.Capture (plan_run texts.Capture plan) ticks said ≡ capture_text (world LAG plan [] [] [] ticks)
-  written said = ap capture_text (world-same LAG plan [] [] [] ticks)
+  -- without its subsystems the plan's run ends in the same tick, and the ticks that are written are those of the plan with them
+  written : (said : List (List ℕ)) → text_of texts.Capture (plan_run texts.Capture plan) said ≡ capture_text (world LAG plan [] [] [] ticks)
+  written said =
+      ap (λ n. capture_text (world LAG (without_subsystems plan) [] [] [] n)) (ends-same plan accepted)
+      ∙ ap capture_text (world-same LAG plan [] [] [] ticks)
 
   short : length (capture_text (world LAG plan [] [] [] ticks)) ≤ text_limit
   short =
       let few = capture-few (world LAG plan [] [] [] ticks) in
-      let ran = ticks-few in
+      let ran = end-small plan accepted in
       let long = world-length plan ticks in
       omega (arith, few, ran, long)
 
-  pub capture-short : (said : List (List ℕ)) → length (text_of texts.Capture (plan_run texts.Capture plan) ticks said) ≤ text_limit
+  pub capture-short : (said : List (List ℕ)) → length (text_of texts.Capture (plan_run texts.Capture plan) said) ≤ text_limit
   capture-short said = subst (λ (text : List ℕ). length text ≤ text_limit) (sym (written said)) short
 
   -- ---- it is read as the ticks of the run
 
   pub capture-read : (said : List (List ℕ)) →
-      capture_ticks (text_of texts.Capture (plan_run texts.Capture plan) ticks said) ≡ record { ticks = world LAG plan [] [] [] ticks; ended = Ok ticks }
+      capture_ticks (text_of texts.Capture (plan_run texts.Capture plan) said) ≡ record { ticks = world LAG plan [] [] [] ticks; ended = Ok ticks }
   capture-read said =
       ap capture_ticks (written said) ∙ round-trip (world LAG plan [] [] [] ticks) short
       ∙ ap (λ n. record { ticks = world LAG plan [] [] [] ticks; ended = Ok n }) (world-length plan ticks)
 
   -- ---- and its words are those of the report
 
-  listing-of : word_listing LAG (world LAG plan [] [] [] ticks) ≡ flat_map word_line (world_log LAG plan ticks).words ++ end_text ticks
+  listing-of : word_listing LAG (world LAG plan [] [] [] ticks) ≡ flat_map word_line (run_log LAG plan).words ++ end_text ticks
   unfolding word_listing world_log
-  listing-of = ap (λ n. flat_map word_line (map heard_word (valid LAG (world LAG plan [] [] [] ticks))) ++ end_text n) (world-length plan ticks)
+  listing-of =
+      ap (λ n. flat_map word_line (map heard_word (valid LAG (world LAG plan [] [] [] ticks))) ++ end_text n) (world-length plan ticks)
+      ∙ ap (λ (log : LogData). flat_map word_line log.words ++ end_text ticks) (of-plan plan accepted).log
 
   pub capture-words : (said : List (List ℕ)) →
-      word_listing LAG (capture_ticks (text_of texts.Capture (plan_run texts.Capture plan) ticks said)).ticks
-      ≡ flat_map word_line (world_log LAG plan ticks).words ++ end_text ticks
+      word_listing LAG (capture_ticks (text_of texts.Capture (plan_run texts.Capture plan) said)).ticks
+      ≡ flat_map word_line (run_log LAG plan).words ++ end_text ticks
   capture-words said = ap (λ (c : Capture). word_listing LAG c.ticks) (capture-read said) ∙ listing-of
 
   -- ---- a listing of it
 
   module _ (said : List (List ℕ)) where
     abbrev text : List ℕ
-    text = text_of texts.Capture (plan_run texts.Capture plan) ticks said
+    text = text_of texts.Capture (plan_run texts.Capture plan) said
 
     read-ticks : ticks_in (reverse text) ≡ world LAG plan [] [] [] ticks
     unfolding capture_ticks
@@ -132,10 +127,10 @@ module _ (plan : PlanData) (ticks : ℕ) (accepted : IsAccepted plan) (ends : En
 
     module _ (left0 left1 held0 held1 : Option (List ℕ)) where
       pub listing-done : (n : ℕ) (listed : IsListed (word_lines LAG) (word_listing LAG) left0 left1 held0 held1 (listings.Done n)) →
-          listed.input ≡ text → (n ≡ ticks) × Appends held0 held1 (flat_map word_line (world_log LAG plan ticks).words ++ end_text ticks)
+          listed.input ≡ text → (n ≡ ticks) × Appends held0 held1 (flat_map word_line (run_log LAG plan).words ++ end_text ticks)
       listing-done n listed is =
           let came : end_after (reverse text) ≡ Ok n = ap (λ input. end_after (reverse input)) (sym is) ∙ listed.ends.1 in
-          let wrote : word_listing LAG (ticks_in (reverse listed.input)) ≡ flat_map word_line (world_log LAG plan ticks).words ++ end_text ticks =
+          let wrote : word_listing LAG (ticks_in (reverse listed.input)) ≡ flat_map word_line (run_log LAG plan).words ++ end_text ticks =
           ap (λ input. word_listing LAG (ticks_in (reverse input))) is ∙ ap (word_listing LAG) read-ticks ∙ listing-of in
           (same-count n ticks (sym came ∙ read-end), subst (Appends held0 held1) wrote listed.ends.2)
 

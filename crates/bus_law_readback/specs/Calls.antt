@@ -4,7 +4,8 @@ use Rattle.std.specs.Io.KnownBytes.{Appends}
 use Rattle.bus_formats.specs.Plans.{PlanData}
 use Rattle.bus_formats.specs.declared.log.Delivery.{Delivery}
 use Rattle.bus_line.specs.declared.cutter.TheConstants.{LAG}
-use Rattle.bus_model.specs.WorldLog.{world_log}
+use Rattle.bus_law_run.specs.WorldIsRun.{plan_end}
+use Rattle.bus_model.specs.Log.{run_log}
 use Rattle.bus_monitor.specs.Progress.{end_text}
 use Rattle.bus_report.specs.Report.{report_text}
 use Rattle.bus_run.specs.declared.finished.FinishedBus.{FinishedBus}
@@ -47,11 +48,10 @@ pub record AreJoined (plan_text : List ℕ) (ran captured decoded : Call) : Type
   pub empty : captured.held0 ≡ Some []
   pub decode_reads : decoded.left0 ≡ captured.held1
 
--- of one plan and number of ticks the run's sink got the report, and the capture is not refused, and the sink to which it was decoded got the report's
--- lines of words, and the number of ticks
+-- of one plan the run's sink got the report, and the capture is not refused, and the sink to which it was decoded got the report's lines of words, and the
+-- number of ticks of the run
 pub record ListTheSameWords (ran decoded : Call) : Type 0 where
   pub plan : PlanData
-  pub ticks : ℕ
-  pub report : Appends ran.held0 ran.held1 (report_text (world_log LAG plan ticks) plan ran.said1)
+  pub report : Appends ran.held0 ran.held1 (report_text (run_log LAG plan) plan ran.said1)
   pub accepted : decoded.status ≡ 3 → ⊥
-  pub listing : decoded.status ≡ 0 → Appends decoded.held0 decoded.held1 (flat_map word_line (world_log LAG plan ticks).words ++ end_text ticks)
+  pub listing : decoded.status ≡ 0 → Appends decoded.held0 decoded.held1 (flat_map word_line (run_log LAG plan).words ++ end_text (plan_end plan))

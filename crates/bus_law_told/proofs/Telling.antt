@@ -1,40 +1,25 @@
--- Each message that began, gives no control away and isn't abandoned is told; so is one that begins between two others.
-use Rattle.std.proofs.Common.{◌≡◌, inl, inr, ℕ, ◌+◌, ◌≤◌, false, Option, Some, refl, sym, ap, ◌∙◌, subst, List, [], ◌∷◌}
+-- Each message that began, gives no control away and isn't abandoned is told.
+use Rattle.std.proofs.Common.{◌≡◌, inl, inr, ℕ, false, Option, Some, refl, sym, ◌∙◌, subst, List}
 use Rattle.std.proofs.lemmas.Option.{none-some, same_Some}
-use Rattle.std.specs.List.{AllByRecursion as Each}
 use Rattle.bus_base.specs.declared.samples.Part.TheVariants.{First}
-use Rattle.bus_formats.specs.Accepted.{IsAccepted}
 use Rattle.bus_formats.specs.Forms.{answers_of}
 use Rattle.bus_formats.specs.Plans.{StationData}
 use Rattle.bus_formats.specs.Readings.{read_answer}
-use Rattle.bus_formats.specs.Times.{ending_quiet}
 use Rattle.bus_formats.specs.declared.form.Reading.{Reading}
 use Rattle.bus_formats.specs.declared.form.Reading.TheVariants.{Good, Ends}
 use Rattle.bus_formats.specs.declared.form.Shape.{Shape}
 use Rattle.bus_formats.specs.declared.log.Attempt.{Attempt}
 use Rattle.bus_model.specs.Attempts.{is_offer}
-use Rattle.bus_model.specs.Endings.{abandoned_at}
 use Rattle.bus_model.specs.Message.{Present}
-use Rattle.bus_model.specs.Run.{quiet_after}
 use Rattle.bus_model.specs.Starts.{Entry}
-use Rattle.bus_model.specs.Strikes.{ShownBurst, burst_end, ShownAnswer}
-use Rattle.bus_law_duties.specs.Duties.{AreApart}
-use Rattle.bus_law_plans.specs.Entries.{IsEntryOf}
-use Rattle.bus_law_plans.specs.Memories.{AreBlocks, HasWordRanges}
-use Rattle.bus_law_stations.specs.Messages.{BeginsMessage}
+use Rattle.bus_model.specs.Strikes.{ShownBurst, ShownAnswer}
 use Rattle.bus_law_stations.proofs.Resting.{cases-option}
-use Rattle.bus_law_phases.specs.Commands.{command_at}
-use Rattle.bus_law_phases.specs.Passages.{Passage}
-use Rattle.bus_law_phases.specs.Rests.{Rested}
-use Rattle.bus_law_phases.specs.Scenarios.{Scenario, trace_at, shown_at, course_of, NoneTakesFrom}
+use Rattle.bus_law_phases.specs.Scenarios.{Scenario}
 use Rattle.bus_law_moments.specs.Begun.{MessageBegan}
 use Rattle.bus_law_told.specs.Tables.{first_shown, second_shown}
-use Rattle.bus_law_moments.specs.Told.{message_at, attempt_at, MessageTold}
-use Rattle.bus_law_moments.proofs.Rests.{began-rested}
-use Rattle.bus_law_told.specs.Plain.{IsPlainItem}
+use Rattle.bus_law_moments.specs.Told.{MessageTold}
 use Rattle.bus_law_told.specs.Told as rest
 use Rattle.bus_law_told.specs.Told.{Refuses, IsNotAbandoned}
-use Rattle.bus_law_told.proofs.TablesShown.{stations-ranged}
 use Rattle.bus_law_told.proofs.FirstEnds.{first-ends-told, first-clear-told, refused-told}
 use Rattle.bus_law_told.proofs.FirstSilent.{first-silent-told}
 use Rattle.bus_law_told.proofs.Known.{BeginsKept, begun, attempt_begun, control-kept, sent-told}
@@ -112,54 +97,3 @@ offer-refused w t place holder stations entry ended found first began shows refu
       keeps = λ other is. inr (subst (Refuses entry.item.kind) (same_Some first other (sym shows ∙ is)) refused);
       stays = stays;
     }
-
--- the premises under which a message is told that begins between two others
-pub record BeginsAtRest (w : Scenario) (t place : ℕ) (holder : StationData) (stations : List Present) (entry : Entry) : Type 0 where
-  pub lag : w.lag ≡ 3
-  pub accepted : IsAccepted w.plan
-  pub entry_of : IsEntryOf w.plan holder.terminal.address entry
-  pub plain : IsPlainItem entry.item
-  pub rested : Rested w (trace_at w t) place holder stations
-  pub starts : BeginsMessage (course_of w holder (shown_at w t)) (shown_at w t) entry
-  pub none : NoneTakesFrom w t
-  pub apart : AreApart stations
-  pub words : Each HasWordRanges stations
-  pub blocks : AreBlocks w.loads
-
-module _ (w : Scenario) (t place : ℕ) (holder : StationData) (stations : List Present) (entry : Entry)
-    (b : BeginsAtRest w t place holder stations entry) where
-  abbrev cmd : ShownBurst
-  cmd = command_at w t t holder entry
-
-  -- nothing but its command is found before that is known
-  began : MessageBegan w t holder entry place stations [] (cmd ∷ [])
-  began =
-      began-rested w t place holder stations entry b.lag b.accepted b.blocks b.entry_of b.rested b.starts b.none b.apart
-      (stations-ranged w.lag w.plan w.loads w.outside w.absent (shown_at w t) stations b.accepted b.rested.are b.words)
-
-  never : IsNotAbandoned w t holder stations entry
-  never first shows = ap (λ n. abandoned_at w.lag entry.item.kind n (burst_end cmd) first) b.plain.0
-
-  so : MessageTold w t holder stations entry place [] (cmd ∷ [])
-  so =
-      began-told w t place holder stations entry
-      record { base = record { ended = []; found = cmd ∷ []; began = began }; keeps = λ first shows. inl b.plain.1; stays = never }
-
-  pub message-told : rest.MessageTold w t holder stations entry place
-  message-told = record {
-    over = so.over;
-    later = so.shows.later;
-    passes = so.passes;
-    runs_on = so.runs_on;
-    closes = so.closes;
-    rested = so.rested;
-    passage = subst (λ bs. Passage w t so.over record {
-      blocks = (message_at w t holder stations entry).deliveries;
-      bursts = bs;
-      attempts = attempt_at w t holder stations entry ∷ [];
-      commands = 1;
-    }) (sym so.shows.bursts_are) so.shows.passage;
-    quiet = so.waits.quiet ∙ ap quiet_after (sym so.shows.bursts_are);
-    soon = subst (λ bs. so.over ≤ quiet_after bs + ending_quiet) (sym so.shows.bursts_are) so.waits.soon;
-    early = so.waits.early;
-  }

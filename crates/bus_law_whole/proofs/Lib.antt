@@ -12,3 +12,4 @@ pub mod TicksHeard
 pub mod MessagesTold
 pub mod WholeRun
 pub mod EachWorld
+pub mod OneHand

@@ -8,7 +8,7 @@ pub mod control;
 pub mod runs;
 pub mod whole;
 
-pub use control::no_block_is_taken_as_control_is_accepted;
+pub use control::{control_stays_in_one_hand, no_block_is_taken_as_control_is_accepted};
 pub use runs::{
     a_run_goes_on_from_each_moment, each_run_is_over_at_its_end, each_run_stands_after_each_attempt,
 };

@@ -15,7 +15,7 @@ ghost use Rattle.bus_law_whole.specs.RunStands.{RunStands};
 use bus_model::a_run_comes_to_an_end;
 
 /// Where the world has come as far as a run of an accepted plan, and the station in control has an item left, it comes as far as the run with one
-/// attempt more: from each sort of moment, and whatever the message leaves. With any stations absent.
+/// attempt more: from each sort of moment, and whatever the message leaves. A run has each station of its plan, so this says nothing where one is absent.
 pub fn a_run_goes_on_from_each_moment()
     ensures { (w : Scenario) (t : ℕ) (run : Run) (next : Next) → IsAcceptedScenario w → IsRunOf w.plan run → KeepsWordRanges run →
         KeepsSuperseding run → RunStands w t run → next_item run ≡ Some next →

@@ -11,3 +11,9 @@ pub mod Whole
 pub mod Verdicts
 pub mod Written
 pub mod Quiet
+pub mod Paced
+pub mod Closing
+pub mod Near
+pub mod Continuing
+pub mod Continued
+pub mod NoOffers

@@ -63,7 +63,7 @@ module _ (long : Bool) where
   never-last (Relay from from_sub to to_sub count) h = h
   never-last (Mode to mode_sub transmit code word) h = h
 
-  followed : (frame offset place : ℕ) (item : ItemData) (items : List ItemData) (later : List Entry) → 1 ≤ place → HasSuperseding (item ∷ items) →
+  pub followed : (frame offset place : ℕ) (item : ItemData) (items : List ItemData) (later : List Entry) → 1 ≤ place → HasSuperseding (item ∷ items) →
       IsSome item.abandon → IsWithinFrame (entries_in frame offset (place + 1) items ++ later)
   followed frame offset place item [] later late h may = absurd (never-last item.kind (h.0 may))
   followed frame offset place item (next ∷ items) later late h may = λ is. omega (arith, is, late)

@@ -21,7 +21,7 @@ fold-max a (n ∷ ns) =
     let here : fold max (max 0 n) ns ≡ max (max 0 n) (fold max 0 ns) = fold-max (max 0 n) ns in
     omega (arith, more, here)
 
-greatest-more : (n : ℕ) (ns : List ℕ) → greatest (n ∷ ns) ≡ max n (greatest ns)
+pub greatest-more : (n : ℕ) (ns : List ℕ) → greatest (n ∷ ns) ≡ max n (greatest ns)
 greatest-more n ns = let here : fold max (max 0 n) ns ≡ max (max 0 n) (fold max 0 ns) = fold-max (max 0 n) ns in omega (arith, here)
 
 -- ---- gaps

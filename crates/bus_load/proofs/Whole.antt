@@ -84,7 +84,7 @@ module _ (station : StationData) where
       next n = omega arith
 
   -- each entry of its agenda is planned by the frames before it
-  entries-planned : Each (λ (f : FrameData). Each (λ (i : ItemData). is_offer i.kind ≡ false) f.items) station.frames → Each (IsPlannedEntry station) (agenda station)
+  pub entries-planned : Each (λ (f : FrameData). Each (λ (i : ItemData). is_offer i.kind ≡ false) f.items) station.frames → Each (IsPlannedEntry station) (agenda station)
   unfolding agenda
   entries-planned plain =
       in-frames 0 0 all refl refl
@@ -114,7 +114,7 @@ plain-frames station number (f ∷ later) none =
     let both = option-none (offer_in_items station number 1 f.items) (offer_in_frames station (suc number) later) none in
     (plain-items station number 1 f.items both.0, plain-frames station (suc number) later both.1)
 
-plain-station : (plan : PlanData) (number : ℕ) (stations : List StationData) (station : StationData) → offer_from plan.start number stations ≡ None →
+pub plain-station : (plan : PlanData) (number : ℕ) (stations : List StationData) (station : StationData) → offer_from plan.start number stations ≡ None →
     find (starts plan) stations ≡ Some station → Each (λ (f : FrameData). Each (λ (i : ItemData). is_offer i.kind ≡ false) f.items) station.frames
 plain-station plan number [] station none found = absurd (none-some station found)
 plain-station plan number (s ∷ later) station none found = by-test (starts plan s) none found (plain-station plan (suc number) later station)
@@ -131,7 +131,7 @@ plain-station plan number (s ∷ later) station none found = by-test (starts pla
 
 -- ---- the first attempt
 
-found-first : (plan : PlanData) (stations : List StationData) (station : StationData) → find (starts plan) stations ≡ Some station →
+pub found-first : (plan : PlanData) (stations : List StationData) (station : StationData) → find (starts plan) stations ≡ Some station →
     find (is_at plan.start) (map (first_present plan) stations) ≡ Some (first_present plan station)
 found-first plan [] station found = absurd (none-some station found)
 found-first plan (s ∷ later) station found = by-test (starts plan s) found (found-first plan later station)
@@ -153,19 +153,20 @@ sendable-of plan (s ∷ later) station each found = by-test (starts plan s) foun
     by-test true is rest = subst (λ (o : StationData). Each (λ (f : FrameData). HasSuperseding f.items) o.frames) (same_Some s station is) each.0
     by-test false is rest = rest is
 
+-- in each of its frames an item that may be abandoned is followed by one that supersedes it
+pub superseding-of : (plan : PlanData) → IsAccepted plan → (station : StationData) → starting plan ≡ Some station → Each (λ (f : FrameData). HasSuperseding f.items) station.frames
+superseding-of plan accepted station found =
+    sendable-of plan plan.stations station
+    (each-weaker (λ (s : StationData). Each (IsFrameSendable plan s.terminal.address) s.frames)
+    (λ (s : StationData). Each (λ (f : FrameData). HasSuperseding f.items) s.frames)
+    (λ s all. each-weaker (IsFrameSendable plan s.terminal.address) (λ (f : FrameData). HasSuperseding f.items) (λ f h. h.superseding) s.frames all) plan.stations
+    (each-weaker (λ (s : StationData). All (IsFrameSendable plan s.terminal.address) s.frames)
+    (λ (s : StationData). Each (IsFrameSendable plan s.terminal.address) s.frames)
+    (λ s all. recursion_from_All (IsFrameSendable plan s.terminal.address) s.frames all) plan.stations
+    (recursion_from_All (λ (s : StationData). All (IsFrameSendable plan s.terminal.address) s.frames) plan.stations accepted.frames))) found
+
 module _ (k : ℕ) (low : k ≤ 3) (long : Bool) (plan : PlanData) (accepted : IsAccepted plan) (brief : Brief long plan.faults) (loads : List TimedLoad)
     (station : StationData) (found : starting plan ≡ Some station) (none : first_offer plan ≡ None) (fits : station_fits long station ≡ true) where
-  superseding : Each (λ (f : FrameData). HasSuperseding f.items) station.frames
-  superseding =
-      sendable-of plan plan.stations station
-      (each-weaker (λ (s : StationData). Each (IsFrameSendable plan s.terminal.address) s.frames)
-      (λ (s : StationData). Each (λ (f : FrameData). HasSuperseding f.items) s.frames)
-      (λ s all. each-weaker (IsFrameSendable plan s.terminal.address) (λ (f : FrameData). HasSuperseding f.items) (λ f h. h.superseding) s.frames all) plan.stations
-      (each-weaker (λ (s : StationData). All (IsFrameSendable plan s.terminal.address) s.frames)
-      (λ (s : StationData). Each (IsFrameSendable plan s.terminal.address) s.frames)
-      (λ s all. recursion_from_All (IsFrameSendable plan s.terminal.address) s.frames all) plan.stations
-      (recursion_from_All (λ (s : StationData). All (IsFrameSendable plan s.terminal.address) s.frames) plan.stations accepted.frames))) found
-
   first-keeps : KeepsTime long station (first_run plan)
   first-keeps = record {
     origin = refl;
@@ -179,7 +180,7 @@ module _ (k : ℕ) (low : k ≤ 3) (long : Bool) (plan : PlanData) (accepted : I
       opens = omega arith;
       quiet = omega arith;
       old = tt;
-      on_time = agenda-on-time long station superseding fits;
+      on_time = agenda-on-time long station (superseding-of plan accepted station found) fits;
     };
   }
 

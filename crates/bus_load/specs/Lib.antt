@@ -2,3 +2,5 @@ pub mod Load
 pub mod InTime
 pub mod Lines
 pub mod Silence
+pub mod Living
+pub mod Offers

@@ -1,7 +1,8 @@
-//! Offers of control among the items of the station that starts (MIL-STD-1553B 4.3.3.5.1.7.1).
-ghost use Rattle.std.specs.Prelude.{◌≡◌, ◌≤◌, ◌+◌, length, All};
+//! Offers of control among the items of stations (MIL-STD-1553B 4.3.3.5.1.7.1).
+ghost use Rattle.std.specs.Prelude.{◌≡◌, ◌≤◌, ◌+◌, length, All, None};
 ghost use Rattle.bus_formats.specs.Accepted.{IsAccepted};
 ghost use Rattle.bus_load.specs.Load as spec;
+ghost use Rattle.bus_load.specs.Offers as any;
 ghost use Rattle.bus_model.specs.Attempts as attempts;
 
 use crate::reckoned::OfferPlace;
@@ -19,6 +20,31 @@ pub fn first_offer(plan: &Plan) -> Option<OfferPlace>
         number += 1;
         if station.terminal.address == plan.start {
             return offer_in_frames(number, station.frames.as_slice());
+        }
+    }
+    None
+}
+
+/// The first item of any station that offers control, in the order of the plan. None exactly where no station has one; then the station that starts has none either.
+pub fn any_offer(plan: &Plan) -> Option<OfferPlace>
+    requires { IsAccepted plan.now }
+    ensures value { result ≡ any.any_offer plan.now }
+    ensures none { result ≡ None → spec.first_offer plan.now ≡ None }
+{
+    first_among(plan)
+}
+
+#[tactic(auto, using(crate::proofs::Limits::limits_of))]
+fn first_among(plan: &Plan) -> Option<OfferPlace>
+    requires { IsAccepted plan.now }
+    ensures { result ≡ any.any_offer plan.now }
+{
+    let mut number = 0;
+    for station in &plan.stations {
+        number += 1;
+        let found = offer_in_frames(number, station.frames.as_slice());
+        if found.is_some() {
+            return found;
         }
     }
     None

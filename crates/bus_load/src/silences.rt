@@ -1,6 +1,10 @@
 //! The longest silence that a living controller keeps (the project's own).
-ghost use Rattle.std.specs.Prelude.{◌≡◌, ◌≤◌, ◌+◌, sum_by, IfSome};
+ghost use Rattle.std.specs.Prelude.{◌≡◌, ◌≤◌, ◌+◌, ◌-◌, List, [], sum_by, None, IfSome};
+ghost use Rattle.bus_line.specs.declared.cutter.TheConstants.{LAG};
 ghost use Rattle.bus_formats.specs.Accepted.{IsAccepted};
+ghost use Rattle.bus_formats.specs.declared.fault.Fault.{Fault as FaultData};
+ghost use Rattle.bus_load.specs.InTime.{with_faults};
+ghost use Rattle.bus_load.specs.Living.{IsAlwaysContinued};
 ghost use Rattle.bus_load.specs.Load as limits;
 ghost use Rattle.bus_load.specs.Silence as spec;
 ghost use Rattle.bus_model.specs.Outside as outside;
@@ -23,9 +27,20 @@ pub struct Spread {
 }
 
 /// The ticks of silence on both channels after which a second controller may take control: 40 more than the longest that a plan's own controller keeps while it lives
-/// and has items left.
-#[tactic(auto, using(crate::proofs::Limits::limits_of), unfolding(bus_model::specs::Outside::silence))]
+/// and has items left. Where that one offers no control, each of its attempts begins 40 ticks sooner at least, in the run of the plan by the message table, with
+/// whatever faults it is accepted.
+#[tactic(auto, unfolding(bus_model::specs::Outside::silence))]
 pub fn silence(plan: &Plan) -> u64
+    requires { IsAccepted plan.now }
+    ensures value { result ≡ outside.silence plan.now }
+    ensures lives { limits.first_offer plan.now ≡ None → (faults : List FaultData) → IsAccepted (with_faults faults plan.now) →
+        IsAlwaysContinued LAG [] (with_faults faults plan.now) (result - 40) }
+{
+    silence_of(plan)
+}
+
+#[tactic(auto, using(crate::proofs::Limits::limits_of), unfolding(bus_model::specs::Outside::silence))]
+fn silence_of(plan: &Plan) -> u64
     requires { IsAccepted plan.now }
     ensures { result ≡ outside.silence plan.now }
 {

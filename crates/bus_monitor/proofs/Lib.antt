@@ -17,3 +17,4 @@ pub mod OpenLaws
 pub mod TickLaws
 pub mod PartLaws
 pub mod StayLaws
+pub mod ToldLaws

@@ -163,7 +163,7 @@ slot-stands lister cutter x past i word s is stands =
 pub end-is : (x : Sample) (past : List Sample) (slots rest : ℕ) → cuts.Ended slots rest ≡ cut_now LAG (x ∷ past) → IsEnded LAG x past rest
 end-is x past slots rest is = is-ended LAG x past slots rest (omega arith) (omega arith) is
 
-end-next : (w : Option Waiting) (past : List Sample) (now first rest : ℕ) → w ≡ awaited LAG past → length past ≡ now →
+pub end-next : (w : Option Waiting) (past : List Sample) (now first rest : ℕ) → w ≡ awaited LAG past → length past ≡ now →
     burst_next w first (now - LAG) now (running_slots LAG past) rest
     ≡ burst_next (awaited LAG past) first (length past - LAG) (length past) (running_slots LAG past) rest
 end-next w past now first rest waits here =

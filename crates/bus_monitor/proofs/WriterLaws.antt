@@ -131,7 +131,7 @@ pub took-later : {L : Type 0} (T : Type 0) (stands : L → List Pair → Type 0)
     Took stands lines writer (more ++ bytes) first held {T = T} (Err stop)
 took-later T stands lines writer more bytes first held (stops.Refused refusal) took =
     let later : (answer_now (more ++ bytes) ≡ Err refusal) × (ticks_in (more ++ bytes) ≡ ticks_in bytes) = refused-later more bytes refusal took.0 in
-    (later.0, written-same lines writer.text bytes (more ++ bytes) first held later.1 took.1)
+    (later.0, written-same lines writer.text bytes (more ++ bytes) first held later.1 took.1, subst (stands writer.lister) (sym later.1) took.2)
 took-later T stands lines writer more bytes first held stops.WriteFault took = record {
   later = more ++ took.later;
   before = took.before;

@@ -38,7 +38,7 @@ pub record FrontListed (lines : List Pair → List ℕ) (past : List Pair) (firs
 
 -- of a text that gets long: it has room again, or a front of it was written
 abbrev pub OwedSo : {T : Type 0} → List ℕ → List ℕ → Option (List ℕ) → Option (List ℕ) → Result T Stop → Type 0
-OwedSo all text first held (Ok _) = Owed all text first held × (length text ≤ 3700)
+OwedSo all text first held (Ok _) = Owed all text first held × (length text ≤ 3000)
 OwedSo all text first held (Err (Refused refusal)) = ⊥
 OwedSo all text first held (Err WriteFault) = GrowsByFront first held all
 
@@ -47,7 +47,7 @@ module _ {L : Type 0} (stands : L → List Pair → Type 0) (lines : List Pair �
   pub record Lists : Type 0 where
     pub lister : stands writer.lister past
     pub written : Owed (lines past) writer.text first held
-    pub room : length writer.text ≤ 3700
+    pub room : length writer.text ≤ 3000
 
   -- after more ticks: it went on, or a write failed
   abbrev pub Listed : {T : Type 0} → Result T Stop → Type 0
@@ -66,12 +66,12 @@ module _ {L : Type 0} (stands : L → List Pair → Type 0) (lines : List Pair �
   -- and its text has room for another tick's lines
   pub record Follows : Type 0 where
     pub holds : Holds
-    pub room : length writer.text ≤ 3700
+    pub room : length writer.text ≤ 3000
 
   -- after more bytes: it went on, or a byte was refused, or a write failed
   abbrev pub Took : {T : Type 0} → Result T Stop → Type 0
   Took (Ok _) = Follows
-  Took (Err (Refused refusal)) = (answer_now bytes ≡ Err refusal) × Written lines writer.text bytes first held
+  Took (Err (Refused refusal)) = (answer_now bytes ≡ Err refusal) × Written lines writer.text bytes first held × stands writer.lister (ticks_in bytes)
   Took (Err WriteFault) = FrontWritten lines bytes first held
 
 -- after the front of a piece: it went on with so many bytes, or stopped somewhere in the piece
@@ -126,6 +126,12 @@ pub record IsListed (lines whole : List Pair → List ℕ) (before left first he
   pub consumed : Consumes before left input
   pub ends : EndsSo lines whole left (reverse input) first held result
 
+-- and where the capture was read to its end, the lister that is handed back stands for its ticks
+pub record IsListedBy {L : Type 0} (stands : L → List Pair → Type 0) (lines whole : List Pair → List ℕ) (before left first held : Option (List ℕ)) (lister : L)
+    (result : Listing) : Type 0 where
+  pub listed : IsListed lines whole before left first held result
+  pub standing : (n : ℕ) → result ≡ listings.Done n → stands lister (ticks_in (reverse listed.input))
+
 -- one piece that was read and taken
 pub record ReadOn {L : Type 0} (stands : L → List Pair → Type 0) (lines : List Pair → List ℕ) (room : ℕ) (before left : Option (List ℕ))
     (writer : ListingWriter L) (bytes : List ℕ) (first held : Option (List ℕ)) (count : ℕ) : Type 0 where
@@ -144,10 +150,16 @@ pub record ReadLast (lines whole : List Pair → List ℕ) (room : ℕ) (before 
   pub fits : length piece ≤ room
   pub ends : EndsSo lines whole left (reverse piece ++ bytes) first held listing
 
+-- at the end of a capture the lister stands for all of its ticks
+pub record ReadEnd {L : Type 0} (stands : L → List Pair → Type 0) (lines whole : List Pair → List ℕ) (room : ℕ) (before left : Option (List ℕ))
+    (writer : ListingWriter L) (bytes : List ℕ) (first held : Option (List ℕ)) (listing : Listing) : Type 0 where
+  pub last : ReadLast lines whole room before left bytes first held listing
+  pub standing : (n : ℕ) → listing ≡ listings.Done n → stands writer.lister (ticks_in (reverse last.piece ++ bytes))
+
 abbrev pub ReadSo : {L : Type 0} → (L → List Pair → Type 0) → (List Pair → List ℕ) → (List Pair → List ℕ) → ℕ → Option (List ℕ) → Option (List ℕ) →
     ListingWriter L → List ℕ → Option (List ℕ) → Option (List ℕ) → Result ℕ Listing → Type 0
 ReadSo stands lines whole room before left writer bytes first held (Ok count) = ReadOn stands lines room before left writer bytes first held count
-ReadSo stands lines whole room before left writer bytes first held (Err listing) = ReadLast lines whole room before left bytes first held listing
+ReadSo stands lines whole room before left writer bytes first held (Err listing) = ReadEnd stands lines whole room before left writer bytes first held listing
 
 -- a fault has its cause in the count of the source's or the sink's faults
 abbrev pub CauseOf : ℕ → ℕ → ℕ → ℕ → Listing → Type 0

@@ -1,5 +1,5 @@
 //! The messages of one channel, tick by tick.
-ghost use Rattle.std.specs.Prelude.{◌≡◌, ◌+◌, ◌-◌, ◌≤◌, ◌<◌, ◌^◌, ◌++◌, true, ℕ, List, [], ◌∷◌, length, take, reverse, false, is_some, option_to_list, Option, Some, None};
+ghost use Rattle.std.specs.Prelude.{◌≡◌, ◌+◌, ◌-◌, ◌≤◌, ◌<◌, ◌^◌, ◌++◌, true, ℕ, List, [], ◌∷◌, length, take, reverse, false, is_some, if◌then◌else◌, option_to_list, Option, Some, None};
 ghost use Rattle.bus_base.specs.declared.samples.Sample.{Sample};
 ghost use Rattle.bus_line.specs.Past.{heard_or_now};
 ghost use Rattle.bus_line.specs.declared.cutter.TheConstants.{LAG};
@@ -9,32 +9,39 @@ ghost use Rattle.bus_monitor.specs.Progress.{closed_now, closed_in_time};
 ghost use Rattle.bus_monitor.specs.Steps.{is_over, kept_with, closed_in, waits_in, burst_next, closed_lines};
 ghost use Rattle.bus_monitor.specs.Channels.{ChannelListerStands, is_idle_on};
 ghost use Rattle.bus_monitor.specs.Parts.{InTime, CloseNone};
-ghost use Rattle.bus_planes.specs.Still.{IsStill, samples_in};
+ghost use Rattle.bus_monitor.specs.Models.{came_of};
+ghost use Rattle.bus_monitor.specs.Told.{TellsSo, told_in_pause, from_of, taken_of, taken_as as taken_as_spec, is_bad};
+ghost use Rattle.bus_monitor.specs.declared.told.Taken.TheVariants as takens;
+ghost use Rattle.bus_planes.specs.Still.{IsStill, TellNothing, samples_in};
 
-use crate::closed::Closed;
+use crate::closed::{Closed, Ended};
 use crate::message_text::add_closed;
 use crate::page::Page;
+use crate::told::{BurstEnd, Taken, Told};
 use crate::waiting::{Next, Waiting, take_burst};
 use arrayvec::ArrayVec;
 use bus_base::{Channel, Sample};
+use bus_formats::Outcome;
 use bus_line::{Cut, LAG};
 use bus_planes::BitCutter;
 use bus_words::Word;
 
-/// Tells the messages of one channel where they close. It takes no memory.
+/// Tells the messages of one channel where they close, and its bursts where they begin and end. It takes no memory.
 #[derive(Drop)]
-pub(crate) struct ChannelLister {
-    cutter: BitCutter,
-    // the first tick of the burst that runs, and its first whole slots
-    running: Option<u64>,
-    slots: ArrayVec<Option<Word>, 34>,
-    // the message that waits for an answer
-    waiting: Option<Waiting>,
+pub struct ChannelLister {
+    /// The burst that runs, tick by tick.
+    pub cutter: BitCutter,
+    /// The first tick of the burst that runs.
+    pub running: Option<u64>,
+    /// Its first whole slots.
+    pub slots: ArrayVec<Option<Word>, 34>,
+    /// The message that waits for an answer.
+    pub waiting: Option<Waiting>,
 }
 
 impl ChannelLister {
     /// A lister that heard nothing.
-    pub(crate) fn new() -> ChannelLister
+    pub fn new() -> ChannelLister
         ensures { ChannelListerStands result [] }
     {
         ChannelLister {
@@ -47,7 +54,7 @@ impl ChannelLister {
 
     /// Hears what the channel shows in tick `now`, and adds the line of the message that closes in this tick, if one does.
     #[inline(always)]
-    pub(crate) fn list(&mut self, channel: Channel, now: u64, sample: Sample, text: &mut Page)
+    pub fn list(&mut self, channel: Channel, now: u64, sample: Sample, text: &mut Page)
         requires past { (past : List Sample) × ChannelListerStands self.old past × (length past ≡ now) × (now < 2 ^ 60) }
         requires room { length text.old ≤ 3900 }
         ensures text { (past : List Sample) → ChannelListerStands self.old past → length past ≡ now →
@@ -66,7 +73,7 @@ impl ChannelLister {
     /// How many of the ticks from `now` on tell nothing and close no message, as far as is looked. Bit i of `heard` is the i-th of them:
     /// whether the channel wasn't quiet.
     #[inline(always)]
-    pub(crate) fn still(&self, heard: u64, now: u64) -> u32
+    pub fn still(&self, heard: u64, now: u64) -> u32
         ensures still { (n : ℕ) → n ≤ result → IsStill LAG self.now.cutter heard n }
         ensures time { (n : ℕ) → 0 < n → n ≤ result → InTime self.now now n }
     {
@@ -82,7 +89,7 @@ impl ChannelLister {
 
     /// Hears so many ticks at once, which tell nothing and close no message.
     #[inline(always)]
-    pub(crate) fn pass(&mut self, heard: u64, plus: u64, ticks: u32)
+    pub fn pass(&mut self, heard: u64, plus: u64, ticks: u32)
         requires some { 0 < ticks }
         requires still { IsStill LAG self.old.cutter heard ticks }
         requires past { (past : List Sample) × ChannelListerStands self.old past }
@@ -90,19 +97,20 @@ impl ChannelLister {
             ChannelListerStands self.new (reverse (samples_in heard plus ticks) ++ past) }
         ensures closes { (past : List Sample) → ChannelListerStands self.old past → InTime self.old (length past) ticks →
             CloseNone (reverse (samples_in heard plus ticks)) past }
+        ensures tells { (past : List Sample) → ChannelListerStands self.old past → TellNothing LAG (reverse (samples_in heard plus ticks)) past }
     {
         self.cutter.pass(heard, plus, ticks);
     }
 
     /// Whether no burst runs and no message waits: then a quiet tick changes nothing, and closes none.
-    pub(crate) fn is_idle(&self) -> bool
+    pub fn is_idle(&self) -> bool
         ensures { result ≡ is_idle_on self.now }
     {
         self.running.is_none() && self.waiting.is_none()
     }
 
     /// The first tick of the message that is open, if one is.
-    pub(crate) fn open(&self) -> Option<u64>
+    pub fn open(&self) -> Option<u64>
         ensures { result ≡ open_of self.now.running self.now.waiting }
     {
         match &self.waiting {
@@ -111,8 +119,101 @@ impl ChannelLister {
         }
     }
 
-    // A slot with this word ended. More than 34 mean nothing but too many.
-    fn keep(&mut self, word: Option<Word>)
+    /// The first tick of the burst that runs, if one does.
+    pub fn running(&self) -> Option<u64>
+        ensures { result ≡ self.now.running }
+    {
+        self.running
+    }
+
+    /// Hears what the channel shows in tick `now`, and tells what became known with it.
+    #[inline(always)]
+    pub fn hear(&mut self, now: u64, sample: Sample) -> Told
+        requires { (past : List Sample) × ChannelListerStands self.old past × (length past ≡ now) × (now < 2 ^ 60) }
+        ensures told { (past : List Sample) → ChannelListerStands self.old past → length past ≡ now → TellsSo LAG sample past result }
+        ensures stands { (past : List Sample) → ChannelListerStands self.old past → length past ≡ now →
+            ChannelListerStands self.new (sample ∷ past) }
+    {
+        match self.cutter.hear(sample) {
+            Cut::Nothing => self.pause(now, sample),
+            Cut::Slot { word, .. } => {
+                self.keep(word);
+                Told::Slot(word.is_some())
+            }
+            Cut::Ended { rest, .. } => Told::Ended(self.tell_end(now, rest)),
+        }
+    }
+
+    // Nothing became known of a burst. One runs, or begins in this tick, or the time for an answer runs.
+    #[inline(always)]
+    fn pause(&mut self, now: u64, sample: Sample) -> Told
+        ensures told { result ≡ told_in_pause sample self.old.running self.old.waiting }
+        ensures keeps { self.new ≡ record self.old {
+          running = heard_or_now sample now self.old.running;
+          waiting = kept_in_time now (is_some (heard_or_now sample now self.old.running)) self.old.waiting;
+        } }
+    {
+        if self.running.is_some() {
+            return Told::Nothing;
+        }
+        match sample {
+            Sample::Quiet => {
+                self.let_go(now);
+                Told::Nothing
+            }
+            Sample::Plus | Sample::Minus => {
+                self.running = Some(now);
+                Told::Begun(self.waits_from())
+            }
+        }
+    }
+
+    // No burst runs. A message whose time for an answer is over waits no longer.
+    fn let_go(&mut self, now: u64)
+        ensures { self.new ≡ record self.old { waiting = kept_in_time now false self.old.waiting } }
+    {
+        if self.is_over(now) {
+            self.waiting = None;
+        }
+    }
+
+    // The tick from which a message waits, if one does.
+    fn waits_from(&self) -> Option<u64>
+        ensures { result ≡ from_of self.now.waiting }
+    {
+        match &self.waiting {
+            Some(waiting) => Some(waiting.from()),
+            None => None,
+        }
+    }
+
+    // The burst that ran has ended. A call of its own, since few ticks end a burst.
+    #[inline(never)]
+    fn tell_end(&mut self, now: u64, rest: u8) -> BurstEnd
+        ensures told { (first : ℕ) (whole : List (Option Word)) → self.old.running ≡ Some first → self.old.slots.items ≡ take 34 whole →
+            result ≡ record {
+              first = first;
+              rest = rest;
+              taken = taken_of (closed_in (burst_next self.old.waiting first (now - LAG) now whole rest));
+            } }
+        ensures keeps { (first : ℕ) (whole : List (Option Word)) → self.old.running ≡ Some first → self.old.slots.items ≡ take 34 whole →
+            self.new ≡ record self.old {
+              running = None;
+              slots = record { items = [] };
+              waiting = waits_in (burst_next self.old.waiting first (now - LAG) now whole rest);
+            } }
+    {
+        let first = self.running.unwrap_or(0);
+        let closed = self.end_burst(now, rest);
+        BurstEnd {
+            first,
+            rest,
+            taken: taken_in(&closed),
+        }
+    }
+
+    /// A slot with this word ended. More than 34 mean nothing but too many.
+    pub fn keep(&mut self, word: Option<Word>)
         ensures { self.new ≡ record self.old { slots = record { items = kept_with self.old.slots.items word } } }
     {
         let _ = self.slots.try_push(word);
@@ -150,8 +251,8 @@ impl ChannelLister {
         }
     }
 
-    // The message that waited for its time.
-    fn unanswered(&mut self, now: u64) -> Option<Closed>
+    /// The message that waited for its time.
+    pub fn unanswered(&mut self, now: u64) -> Option<Closed>
         requires { is_over now self.old.waiting ≡ true }
         ensures closed { option_to_list result ≡ closed_in_time now false self.old.waiting }
         ensures keeps { self.new ≡ record self.old { waiting = kept_in_time now false self.old.waiting } }
@@ -160,7 +261,8 @@ impl ChannelLister {
         Some(waiting.unanswered(now))
     }
 
-    fn is_over(&self, now: u64) -> bool
+    /// Whether a message waits whose time for an answer is over with this tick, if no burst runs.
+    pub fn is_over(&self, now: u64) -> bool
         ensures { result ≡ is_over now self.now.waiting }
     {
         match &self.waiting {
@@ -187,8 +289,8 @@ impl ChannelLister {
         add_closed(channel, closed, text);
     }
 
-    // The burst that ran has ended, with so many ticks after its last whole slot.
-    fn end_burst(&mut self, now: u64, rest: u8) -> Option<Closed>
+    /// The burst that ran has ended, with so many ticks after its last whole slot: the message that closes with it, if one does.
+    pub fn end_burst(&mut self, now: u64, rest: u8) -> Option<Closed>
         ensures closed { (first : ℕ) (whole : List (Option Word)) → self.old.running ≡ Some first → self.old.slots.items ≡ take 34 whole →
             option_to_list result ≡ closed_in (burst_next self.old.waiting first (now - LAG) now whole rest) }
         ensures keeps { (first : ℕ) (whole : List (Option Word)) → self.old.running ≡ Some first → self.old.slots.items ≡ take 34 whole →
@@ -216,5 +318,33 @@ impl ChannelLister {
                 None
             }
         }
+    }
+}
+
+// What the burst was with which this message closed, if one did.
+fn taken_in(closed: &Option<Closed>) -> Taken
+    ensures { result ≡ taken_of (option_to_list closed.now) }
+{
+    match closed {
+        Some(closed) => taken_as(&closed.came),
+        None => Taken::Known,
+    }
+}
+
+fn taken_as(came: &Option<Ended>) -> Taken
+    ensures { result ≡ taken_as_spec (came_of came.now) }
+{
+    match came {
+        None => Taken::Unknown,
+        Some(ended) => taken_by(ended.outcome),
+    }
+}
+
+fn taken_by(outcome: Outcome) -> Taken
+    ensures { result ≡ (if is_bad outcome then takens.BadReply else takens.Known) }
+{
+    match outcome {
+        Outcome::BadReply(_) => Taken::BadReply,
+        _ => Taken::Known,
     }
 }

@@ -5,12 +5,12 @@ use std::marker::Model;
 
 /// How a message of a known form ended.
 #[derive(Drop)]
-pub(crate) struct Ended {
-    pub(crate) kind: Kind,
-    pub(crate) outcome: Outcome,
+pub struct Ended {
+    pub kind: Kind,
+    pub outcome: Outcome,
     // the statuses that are kept: of a relay's first answer, and of the last one
-    pub(crate) earlier: Option<Status>,
-    pub(crate) last: Option<Status>,
+    pub earlier: Option<Status>,
+    pub last: Option<Status>,
 }
 
 impl Model for Ended {
@@ -27,12 +27,12 @@ impl Model for Ended {
 
 /// A message that closed.
 #[derive(Drop)]
-pub(crate) struct Closed {
+pub struct Closed {
     // its first tick, and the tick in which it closed
-    pub(crate) first: u64,
-    pub(crate) tick: u64,
+    pub first: u64,
+    pub tick: u64,
     // what it came to, where it is of a known form
-    pub(crate) came: Option<Ended>,
+    pub came: Option<Ended>,
 }
 
 impl Model for Closed {

@@ -31,7 +31,7 @@ use bus_capture::{Block, CaptureReader, CaptureRefusal};
 use bus_outside::{Failed, Sink, Source};
 
 /// What makes lines of ticks.
-pub(crate) trait Lister {
+pub trait Lister {
     /// For which ticks it stands, the newest first.
     ghost stands: { Self → List Pair → Type 0 };
 
@@ -67,51 +67,52 @@ pub(crate) trait Lister {
     /// Hears a tick, and adds the lines that it completes to the text.
     fn list(&mut self, shown: Pair, text: &mut Page)
         requires past { (past : List Pair) × stands self.old past × (length past < 2 ^ 60) }
-        requires room { length text.old ≤ 3700 }
+        requires room { length text.old ≤ 3000 }
         ensures stands { (past : List Pair) → stands self.old past → stands self.new (shown ∷ past) }
         ensures lines { (past : List Pair) → stands self.old past →
             (added : List ℕ) × (lines (shown ∷ past) ≡ lines past ++ added) × (text.new ≡ text.old ++ added) }
-        ensures grows { length text.new ≤ length text.old + 200 };
+        ensures grows { length text.new ≤ length text.old + 3000 };
 
     /// Adds the lines that the end of the ticks adds to the text.
     fn finish(&self, text: &mut Page)
         requires past { (past : List Pair) × stands self.now past × (length past < 2 ^ 60) }
-        requires room { length text.old ≤ 3700 }
+        requires room { length text.old ≤ 3000 }
         ensures { (past : List Pair) → stands self.now past →
             (added : List ℕ) × (whole past ≡ lines past ++ added) × (text.new ≡ text.old ++ added) };
 }
 
 /// Why a listing stops within its input.
 #[derive(Clone, Copy, Debug, PartialEq, Eq)]
-pub(crate) enum Stop {
+pub enum Stop {
     Refused(CaptureRefusal),
     WriteFault,
 }
 
 /// Reads a capture byte by byte, and writes the lines of its ticks. It holds back at most one piece of text.
 #[derive(Drop)]
-pub(crate) struct ListingWriter<L> {
-    pub(crate) reader: CaptureReader,
-    pub(crate) lister: L,
-    pub(crate) text: Page,
+pub struct ListingWriter<L> {
+    pub reader: CaptureReader,
+    pub lister: L,
+    pub text: Page,
 }
 
 impl<L: Lister> ListingWriter<L> {
-    /// A writer that has read nothing.
-    pub(crate) fn new(lister: L) -> ListingWriter<L>
+    /// A writer that has read nothing, and begins with this text.
+    pub fn new(lister: L, text: Page) -> ListingWriter<L>
         requires stands { L.stands lister [] }
-        requires lines { L.lines [] ≡ [] }
+        requires lines { L.lines [] ≡ text }
+        requires room { length text ≤ 3000 }
         ensures { (first : Option (List ℕ)) → Follows L.stands L.lines result [] first first }
     {
         ListingWriter {
             reader: CaptureReader::new(),
             lister,
-            text: Page::new(),
+            text,
         }
     }
 
     /// Takes the next byte.
-    pub(crate) fn take<K: Sink>(&mut self, byte: u8, sink: &mut K) -> Result<(), Stop>
+    pub fn take<K: Sink>(&mut self, byte: u8, sink: &mut K) -> Result<(), Stop>
         requires { (bytes : List ℕ) × (first : Option (List ℕ)) × Follows L.stands L.lines self.old bytes first (K.held sink.old) }
         ensures took { (bytes : List ℕ) (first : Option (List ℕ)) → Follows L.stands L.lines self.old bytes first (K.held sink.old) →
             Took L.stands L.lines self.new (byte ∷ bytes) first (K.held sink.new) result }
@@ -125,7 +126,7 @@ impl<L: Lister> ListingWriter<L> {
     }
 
     /// Takes a piece, and writes what it completes.
-    pub(crate) fn take_piece<K: Sink>(&mut self, piece: &[u8], sink: &mut K) -> Result<(), Stop>
+    pub fn take_piece<K: Sink>(&mut self, piece: &[u8], sink: &mut K) -> Result<(), Stop>
         requires { (bytes : List ℕ) × (first : Option (List ℕ)) × Follows L.stands L.lines self.old bytes first (K.held sink.old) }
         ensures took { (bytes : List ℕ) (first : Option (List ℕ)) → Follows L.stands L.lines self.old bytes first (K.held sink.old) →
             Took L.stands L.lines self.new (reverse piece.now ++ bytes) first (K.held sink.new) result }
@@ -297,15 +298,22 @@ impl<L: Lister> ListingWriter<L> {
         quiet.bytes
     }
 
-    // Writes a text that leaves no room for another tick's lines.
+    /// The lister.
+    pub fn into_lister(self) -> L
+        ensures { result ≡ self.lister }
+    {
+        self.lister
+    }
+
+    /// Writes a text that leaves no room for another tick's lines.
     #[inline(always)]
-    fn write_long<K: Sink>(&mut self, sink: &mut K) -> Result<(), Stop>
+    pub fn write_long<K: Sink>(&mut self, sink: &mut K) -> Result<(), Stop>
         ensures keeps { (self.new.reader ≡ self.old.reader) × (self.new.lister ≡ self.old.lister) }
         ensures owed { (all : List ℕ) (first : Option (List ℕ)) → Owed all self.old.text first (K.held sink.old) →
             OwedSo all self.new.text first (K.held sink.new) result }
         ensures cause { FaultHasCause (K.faults sink.old) (K.faults sink.new) result }
     {
-        if self.text.as_bytes().len() <= 3700 {
+        if self.text.as_bytes().len() <= 3000 {
             return Ok(());
         }
         match self.write(sink) {
@@ -326,7 +334,7 @@ impl<L: Lister> ListingWriter<L> {
     }
 
     /// Writes the text that was held back.
-    fn write<K: Sink>(&mut self, sink: &mut K) -> Result<(), Failed>
+    pub fn write<K: Sink>(&mut self, sink: &mut K) -> Result<(), Failed>
         ensures text { self.new ≡ record self.old { text = [] } }
         ensures held { WriteAdds (K.held sink.old) (K.held sink.new) result self.old.text }
         ensures cause { HasCause (K.faults sink.old) (K.faults sink.new) result }
@@ -338,6 +346,7 @@ impl<L: Lister> ListingWriter<L> {
 
     // Writes the text that was held back, and answers with the listing where that doesn't fail.
     fn close<K: Sink>(&mut self, listing: Listing, sink: &mut K) -> Listing
+        ensures keeps { self.new.lister ≡ self.old.lister }
         ensures closes { (all : List ℕ) (first : Option (List ℕ)) → Owed all self.old.text first (K.held sink.old) →
             Closes all listing first (K.held sink.new) (K.faults sink.old) (K.faults sink.new) result }
         ensures later { K.faults sink.old ≤ K.faults sink.new }
@@ -355,6 +364,7 @@ impl<L: Lister> ListingWriter<L> {
         ensures ends { (bytes : List ℕ) (first left : Option (List ℕ)) → IsAtEnd left →
             Follows L.stands L.lines self.old bytes first (K.held sink.old) →
             EndsSo L.lines L.whole left bytes first (K.held sink.new) result }
+        ensures keeps { self.new.lister ≡ self.old.lister }
         ensures cause { (source : ℕ) → ListingHasCause source source (K.faults sink.old) (K.faults sink.new) result }
     {
         match self.reader.end() {
@@ -367,7 +377,7 @@ impl<L: Lister> ListingWriter<L> {
     }
 
     // Reads a piece and takes it. The number of its bytes; or the listing's end.
-    pub(crate) fn read_piece<S: Source, K: Sink>(
+    pub fn read_piece<S: Source, K: Sink>(
         &mut self,
         piece: &mut [u8],
         source: &mut S,

@@ -9,7 +9,7 @@ use bus_formats::{Kind, command_in, data_in, datum_in, form_of, is_second_comman
 use bus_words::{Command, Word};
 
 /// The message that a burst of these slots and this rest opens, if it is of a known form.
-pub(crate) fn message_of(slots: &[Option<Word>], rest: u8) -> Option<Kind>
+pub fn message_of(slots: &[Option<Word>], rest: u8) -> Option<Kind>
     ensures value { result ≡ spec.message_of slots.now rest }
     ensures ranges { IfSome result HasKindRanges }
 {

@@ -2,7 +2,7 @@
 //!
 //! Contracts see a page as the list of its bytes, as they see a line.
 ghost use Rattle.std.specs.Prelude.{◌≡◌, ◌+◌, ◌/◌, ◌%◌, ◌≤◌, ◌<◌, [], ◌∷◌, ◌++◌, List, ℕ, length, decimal};
-ghost use Rattle.bus_text.specs.Texts.{hex_digit, line, number as number_text, word as word_text, channel_text, sync_text, word_line};
+ghost use Rattle.bus_text.specs.Texts.{hex_digit, hex_word, line, number as number_text, word as word_text, channel_text, sync_text, word_line};
 
 use arrayvec::ArrayVec;
 use bus_base::Channel;
@@ -12,10 +12,10 @@ use bus_words::Sync;
 use itoa::Buffer;
 use std::marker::Model;
 
-/// Lines that wait to be written, at most 4,096 bytes.
+/// Lines that wait to be written, at most 8,192 bytes.
 #[derive(Drop)]
-pub(crate) struct Page {
-    bytes: ArrayVec<u8, 4096>,
+pub struct Page {
+    bytes: ArrayVec<u8, 8192>,
 }
 
 impl Model for Page {
@@ -28,7 +28,7 @@ impl Model for Page {
 
 impl Page {
     /// The empty page.
-    pub(crate) fn new() -> Page
+    pub fn new() -> Page
         ensures { result ≡ [] }
     {
         Page {
@@ -37,30 +37,30 @@ impl Page {
     }
 
     /// The bytes so far.
-    pub(crate) fn as_bytes(&self) -> &[u8]
+    pub fn as_bytes(&self) -> &[u8]
         ensures { result.now ≡ self.now }
     {
         self.bytes.as_slice()
     }
 
     /// Forgets the bytes so far.
-    pub(crate) fn clear(&mut self)
+    pub fn clear(&mut self)
         ensures { self.new ≡ [] }
     {
         self.bytes.clear();
     }
 
     /// Adds a line that was made apart.
-    pub(crate) fn line(&mut self, line: &Line)
-        requires { length self.old + length line.now ≤ 4096 }
+    pub fn line(&mut self, line: &Line)
+        requires { length self.old + length line.now ≤ 8192 }
         ensures { self.new ≡ self.old ++ line.now }
     {
         self.add(line.as_bytes());
     }
 
     /// Adds the line of a word heard.
-    pub(crate) fn word(&mut self, heard: Heard)
-        requires { length self.old + 40 ≤ 4096 }
+    pub fn word(&mut self, heard: Heard)
+        requires { length self.old + 40 ≤ 8192 }
         ensures text { self.new ≡ self.old ++ word_line heard }
         ensures grows { length self.new ≤ length self.old + 40 }
     {
@@ -74,8 +74,8 @@ impl Page {
     }
 
     /// Adds a text.
-    pub(crate) fn text(&mut self, more: &str)
-        requires { length self.old + length more.now ≤ 4096 }
+    pub fn text(&mut self, more: &str)
+        requires { length self.old + length more.now ≤ 8192 }
         ensures text { self.new ≡ self.old ++ more.now }
         ensures grows { length self.new ≡ length self.old + length more.now }
     {
@@ -83,8 +83,8 @@ impl Page {
     }
 
     /// Adds a number after a space.
-    pub(crate) fn number(&mut self, n: u64)
-        requires { length self.old + 21 ≤ 4096 }
+    pub fn number(&mut self, n: u64)
+        requires { length self.old + 21 ≤ 8192 }
         ensures text { self.new ≡ self.old ++ number_text n }
         ensures grows { length self.new ≤ length self.old + 21 }
     {
@@ -93,8 +93,8 @@ impl Page {
     }
 
     /// Adds a channel after a space.
-    pub(crate) fn channel(&mut self, channel: Channel)
-        requires { length self.old + 2 ≤ 4096 }
+    pub fn channel(&mut self, channel: Channel)
+        requires { length self.old + 2 ≤ 8192 }
         ensures text { self.new ≡ self.old ++ channel_text channel }
         ensures grows { length self.new ≡ length self.old + 2 }
     {
@@ -102,33 +102,49 @@ impl Page {
     }
 
     /// Adds the line feed that ends a line.
-    pub(crate) fn end(&mut self)
-        requires { length self.old < 4096 }
+    pub fn end(&mut self)
+        requires { length self.old < 8192 }
         ensures { self.new ≡ line self.old }
     {
         self.add(b"\n");
     }
 
-    fn add(&mut self, bytes: &[u8])
-        requires { length self.old + length bytes.now ≤ 4096 }
+    /// Adds bytes.
+    #[inline(always)]
+    pub fn add(&mut self, bytes: &[u8])
+        requires { length self.old + length bytes.now ≤ 8192 }
         ensures text { self.new ≡ self.old ++ bytes.now }
         ensures grows { length self.new ≡ length self.old + length bytes.now }
     {
         let _ = self.bytes.try_extend_from_slice(bytes);
     }
 
-    // Adds a number in decimal digits.
-    fn decimal(&mut self, n: u64)
-        requires { length self.old + 20 ≤ 4096 }
+    /// Adds a number in decimal digits.
+    pub fn decimal(&mut self, n: u64)
+        requires { length self.old + 20 ≤ 8192 }
         ensures text { self.new ≡ self.old ++ decimal n }
         ensures grows { length self.new ≤ length self.old + 20 }
     {
         self.add(Buffer::new().format(n).as_bytes());
     }
 
+    /// Adds a word as four upper-case hexadecimal digits.
+    pub fn hex(&mut self, word: u16)
+        requires { length self.old + 4 ≤ 8192 }
+        ensures text { self.new ≡ self.old ++ hex_word word }
+        ensures grows { length self.new ≡ length self.old + 4 }
+    {
+        self.add(&[
+            digit_of(word / 4096 % 16),
+            digit_of(word / 256 % 16),
+            digit_of(word / 16 % 16),
+            digit_of(word % 16),
+        ]);
+    }
+
     // Adds two letters and a word, each after a space, and the line feed that ends a line.
     fn rest_of_word(&mut self, channel: u8, sync: u8, word: u16)
-        requires { length self.old + 10 ≤ 4096 }
+        requires { length self.old + 10 ≤ 8192 }
         ensures text { self.new ≡ self.old ++ 32 ∷ channel ∷ 32 ∷ sync ∷ (word_text word ++ 10 ∷ []) }
         ensures grows { length self.new ≡ length self.old + 10 }
     {

@@ -17,7 +17,7 @@ use std::marker::Model;
 
 /// A message that waits for an answer.
 #[derive(Drop)]
-pub(crate) struct Waiting {
+pub struct Waiting {
     // its first tick
     first: u64,
     kind: Kind,
@@ -48,14 +48,14 @@ impl Model for Waiting {
 
 /// What a burst leaves: a message that closed with it, or one that waits for the next.
 #[derive(Drop)]
-pub(crate) enum Next {
+pub enum Next {
     Closed(Closed),
     Waits(Waiting),
 }
 
 impl Waiting {
     /// The first tick of the message.
-    pub(crate) fn first(&self) -> u64
+    pub fn first(&self) -> u64
         ensures { result ≡ self.now.first }
     {
         self.first
@@ -87,8 +87,23 @@ impl Waiting {
         self.close(Outcome::NoResponse(part), None, now)
     }
 
-    // The answer that is awaited.
-    fn part(&self) -> Part
+    /// What the message is.
+    pub fn kind(&self) -> &Kind
+        ensures kind { result.now ≡ self.now.kind }
+        ensures ranges { HasKindRanges result.now }
+    {
+        &self.kind
+    }
+
+    /// The tick after the burst from which it waits.
+    pub fn from(&self) -> u64
+        ensures { result ≡ self.now.from }
+    {
+        self.from
+    }
+
+    /// The answer that is awaited.
+    pub fn part(&self) -> Part
         ensures { result ≡ self.now.part }
     {
         if self.earlier.is_none() {

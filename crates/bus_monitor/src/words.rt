@@ -97,7 +97,7 @@ fn add_line(heard: Heard, text: &mut Page)
 }
 
 /// Adds the line that ends a listing, with the number of ticks.
-pub(crate) fn add_end(ticks: u64, text: &mut Page)
+pub fn add_end(ticks: u64, text: &mut Page)
     requires { length text.old ≤ 3900 }
     ensures { text.new ≡ text.old ++ end_text ticks }
 {

@@ -3,3 +3,4 @@ pub mod Shown
 pub mod PairLaws
 pub mod CutLaws
 pub mod StillLaws
+pub mod SlotSamples

@@ -1,14 +1,15 @@
 //! What one channel shows, cut into bursts and slots as the ticks come, or many ticks at once: what `bus_line::Cutter` tells, over a slot that is
 //! kept as bits. It keeps no past, and stands for every past after which it may be as it is.
-ghost use Rattle.std.specs.Prelude.{◌≡◌, ℕ, ◌<◌, ◌≤◌, ◌+◌, ◌^◌, ◌↔◌, IsTrue, false, if◌then◌else◌, List, ◌∷◌, ◌++◌, reverse, length};
+ghost use Rattle.std.specs.Prelude.{◌≡◌, ℕ, ◌<◌, ◌≤◌, ◌+◌, ◌*◌, ◌^◌, ◌↔◌, IsTrue, true, false, if◌then◌else◌, List, ◌∷◌, ◌++◌, reverse, length, Option};
 ghost use Rattle.bus_base.specs.declared.samples.Sample.{Sample};
 ghost use Rattle.bus_base.specs.Samples.{is_quiet};
 ghost use Rattle.bus_line.specs.declared.cutter.TheConstants.{LAG};
-ghost use Rattle.bus_line.specs.Past.{quiet_ticks};
+ghost use Rattle.bus_line.specs.Past.{quiet, quiet_ticks, runs, first_tick, samples_from, stopped};
 ghost use Rattle.bus_line.specs.Cutting.{cut_now};
 ghost use Rattle.bus_line.specs.Spelling.{is_plus};
 ghost use Rattle.bus_planes.specs.Cutting.{Follows, BitCutterStands, begun};
-ghost use Rattle.bus_planes.specs.Still.{rests, IsStill, TellNothing, samples_in};
+ghost use Rattle.bus_planes.specs.Still.{rests, IsStill, TellNothing, sample_in, samples_in};
+ghost use Rattle.bus_words.specs.declared.word.Word.{Word};
 
 use crate::slot::read_slot;
 use bus_base::Sample;
@@ -108,6 +109,37 @@ impl BitCutter {
         self.rest += ticks as u8;
     }
 
+    /// The ticks of the burst that runs, up to its last one that wasn't quiet; any number where none runs.
+    pub fn burst_ticks(&self) -> u64
+        ensures { (past : List Sample) → BitCutterStands LAG self.now past → runs LAG past ≡ true → length past < 2 ^ 60 →
+            first_tick LAG past + result ≡ stopped past }
+    {
+        self.slots
+            .saturating_mul(40)
+            .saturating_add(u64::from(self.rest))
+    }
+
+    /// The quiet ticks after the last tick of the burst that runs, where one does.
+    #[inline(always)]
+    pub fn quiet_ticks(&self) -> u8
+        ensures { (past : List Sample) → BitCutterStands LAG self.now past → runs LAG past ≡ true → result ≡ quiet past }
+    {
+        self.quiet
+    }
+
+    /// The forty samples of the slot that this sample ends, where it ends one: it is the channel's next, and not yet heard.
+    #[tactic(auto, unfolding(crate::specs::Cutting::BitCutterStands))]
+    pub fn slot_with(&self, sample: Sample) -> [Sample; 40]
+        requires { (past : List Sample) × BitCutterStands LAG self.now past }
+        ensures { (past : List Sample) (i : ℕ) (word : Option Word) → BitCutterStands LAG self.now past →
+            cut_now LAG (sample ∷ past) ≡ Cut.Slot i word → result ≡ samples_from (sample ∷ past) (first_tick LAG past + 40 * i) 40 }
+    {
+        let place = self.rest + self.quiet;
+        let heard = self.heard | 1 << place;
+        let plus = self.plus | plus_bit(sample) << place;
+        samples_of(heard, plus)
+    }
+
     // Whether a burst runs.
     #[inline(always)]
     fn runs(&self) -> bool
@@ -189,6 +221,31 @@ fn plus_bit(sample: Sample) -> u64
     ensures { result ≡ (if is_plus sample then 1 else 0) }
 {
     u64::from(sample == Sample::Plus)
+}
+
+// Forty samples that are shown by bits.
+fn samples_of(heard: u64, plus: u64) -> [Sample; 40]
+    ensures { result ≡ samples_in heard plus 40 }
+{
+    let mut samples = [Sample::Quiet; 40];
+    for place in 0..samples.len() {
+        samples[place] = sample_at(heard, plus, place);
+    }
+    samples
+}
+
+// The sample that a bit of two numbers shows.
+fn sample_at(heard: u64, plus: u64, place: usize) -> Sample
+    requires { place < 40 }
+    ensures { result ≡ sample_in heard plus place }
+{
+    if (heard >> place) % 2 == 0 {
+        Sample::Quiet
+    } else if (plus >> place) % 2 == 1 {
+        Sample::Plus
+    } else {
+        Sample::Minus
+    }
 }
 
 #[cfg(test)]

@@ -1,2 +1,3 @@
 pub mod Cuts
 pub mod Moments
+pub mod Nothing

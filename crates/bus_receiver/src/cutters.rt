@@ -4,6 +4,7 @@ ghost use Rattle.bus_base.specs.declared.samples.Sample.{Sample};
 ghost use Rattle.bus_line.specs.Past.{quiet_ticks};
 ghost use Rattle.bus_line.specs.declared.cutter.TheConstants.{LAG};
 ghost use Rattle.bus_receiver.specs.Cuts.{cut_on, CuttersStand, CuttersHear};
+ghost use Rattle.bus_receiver.specs.Nothing as nothing;
 
 use bus_base::{Channel, Pair};
 use bus_line::{Cut, Cutter};
@@ -26,6 +27,22 @@ impl Cuts {
             Channel::B => self.b,
         }
     }
+
+    /// Whether nothing became known on either: no slot and no burst ended.
+    #[inline(always)]
+    pub fn are_nothing(&self) -> bool
+        ensures { result ≡ nothing.are_nothing self.now }
+    {
+        is_nothing(self.a) && is_nothing(self.b)
+    }
+}
+
+// Whether nothing became known of a channel.
+#[inline(always)]
+fn is_nothing(cut: Cut) -> bool
+    ensures { result ≡ nothing.is_nothing cut }
+{
+    matches!(cut, Cut::Nothing)
 }
 
 /// A cutter for each channel.

@@ -30,7 +30,7 @@ pub fn report<K: Sink>(
         (report_text log.now plan.now (map (λ b. said b) subsystems.now.items)) }
     ensures cause { HasCause (K.faults sink.old) (K.faults sink.new) result }
 {
-    write_attempts(log.attempts.as_slice(), sink)?;
+    attempts(log.attempts.as_slice(), sink)?;
     write_words(log.words.as_slice(), sink)?;
     write_bursts(log.bursts.as_slice(), sink)?;
     write_terminals(
@@ -43,7 +43,9 @@ pub fn report<K: Sink>(
     sink.write(end_line(log.end.0, log.clashes).as_bytes())
 }
 
-fn write_attempts<K: Sink>(attempts: &[Attempt], sink: &mut K) -> Result<(), Failed>
+/// Writes the lines of some attempts, one write a line; the first has number 1. At `Failed`, the first write that failed, a front of them was written. Asks that the
+/// numbers of each attempt's message are in their ranges.
+pub fn attempts<K: Sink>(attempts: &[Attempt], sink: &mut K) -> Result<(), Failed>
     requires { (a : Attempt) (i : ℕ) → slice_get attempts.now i ≡ Some a → HasKindRanges a.kind }
     ensures bytes { WriteAdds (K.held sink.old) (K.held sink.new) result (spec.attempt_lines 1 attempts.now) }
     ensures cause { HasCause (K.faults sink.old) (K.faults sink.new) result }

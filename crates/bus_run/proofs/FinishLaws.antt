@@ -1,10 +1,17 @@
 -- A run goes on while a tick answers, and has ended where one answers nothing.
-use Rattle.std.proofs.Common.{◌≡◌, ℕ, suc, ◌<◌, ◌≤◌, true, false, arith, subst, inl, inr, ◌⊎◌, Option, Some, None}
+use Rattle.std.proofs.Common.{◌≡◌, ℕ, ◌<◌, ◌≤◌, true, false, arith, inl, inr, Option, Some, None}
 use Rattle.std.specs.Prelude.{is_some}
-use Rattle.std.proofs.lemmas.Bool.{cases_Bool, cases_lt}
+use Rattle.std.proofs.lemmas.Bool.{cases_lt}
 use Rattle.bus_base.specs.declared.samples.Pair.{Pair}
 use Rattle.bus_formats.specs.Plans.{PlanData}
-use Rattle.bus_run.specs.Ends.{has_ended}
+use Rattle.bus_law_run.specs.WorldIsRun.{plan_end}
+use Rattle.bus_run.specs.Stands.{BusStands}
+use Rattle.bus_run.specs.declared.bus.Bus.{Bus}
+
+-- a run never passes its end
+pub within-end : (plan : PlanData) (t : ℕ) (bus : Bus) → BusStands plan t bus → t ≤ plan_end plan
+unfolding BusStands
+within-end plan t bus st = st.within
 
 -- nothing is no answer
 no-answer : (o : Option Pair) → o ≡ None → is_some o ≡ true → ⊥
@@ -16,35 +23,16 @@ an-answer : (o : Option Pair) (shown : Pair) → o ≡ Some shown → is_some o 
 an-answer None shown is none = (let no : None ≡ Some shown = is in cc)
 an-answer (Some x) shown is none = (let no : true ≡ false = none in cc)
 
--- it had not ended, by cases
-on-by : (plan : PlanData) (u : ℕ) (o : Option Pair) → (has_ended plan u ≡ true → o ≡ None) → is_some o ≡ true →
-    (has_ended plan u ≡ true) ⊎ (has_ended plan u ≡ false) → has_ended plan u ≡ false
-on-by plan u o none some (inl ended) = absurd (no-answer o (none ended) some)
-on-by plan u o none some (inr on) = on
-
 -- it hadn't ended where there is an answer
-pub still-on : (plan : PlanData) (u : ℕ) (o : Option Pair) → (has_ended plan u ≡ true → o ≡ None) → is_some o ≡ true → has_ended plan u ≡ false
-still-on plan u o none some = on-by plan u o none some (cases_Bool (has_ended plan u))
-
--- it had ended, by cases
-ended-by : (plan : PlanData) (u : ℕ) (o : Option Pair) (shown : Pair) → (has_ended plan u ≡ false → o ≡ Some shown) → is_some o ≡ false →
-    (has_ended plan u ≡ true) ⊎ (has_ended plan u ≡ false) → has_ended plan u ≡ true
-ended-by plan u o shown answers none (inl ended) = ended
-ended-by plan u o shown answers none (inr on) = absurd (an-answer o shown (answers on) none)
+pub still-on : (t end : ℕ) (o : Option Pair) → t ≤ end → (t ≡ end → o ≡ None) → is_some o ≡ true → t < end
+still-on t end o within none some = elim (cases_lt t end) [
+  | inl early ↦ early
+  | inr late ↦ absurd (no-answer o (none (omega (arith, within, late))) some)
+]
 
 -- it had ended where there is none
-pub has-ended : (plan : PlanData) (u : ℕ) (o : Option Pair) (shown : Pair) → (has_ended plan u ≡ false → o ≡ Some shown) → is_some o ≡ false →
-    has_ended plan u ≡ true
-has-ended plan u o shown answers none = ended-by plan u o shown answers none (cases_Bool (has_ended plan u))
-
--- before one tick more, by cases
-before-by : (plan : PlanData) (t u v : ℕ) → ((v : ℕ) → t ≤ v → v < u → has_ended plan v ≡ false) → has_ended plan u ≡ false → t ≤ v → v < suc u →
-    (v < u) ⊎ (u ≤ v) → has_ended plan v ≡ false
-before-by plan t u v before on low high (inl below) = before v low below
-before-by plan t u v before on low high (inr above) =
-    let same : u ≡ v = omega (arith, high, above) in subst (λ n. has_ended plan n ≡ false) same on
-
--- one tick more before which it hadn't
-pub before-more : (plan : PlanData) (t u v : ℕ) → ((v : ℕ) → t ≤ v → v < u → has_ended plan v ≡ false) → has_ended plan u ≡ false → t ≤ v → v < suc u →
-    has_ended plan v ≡ false
-before-more plan t u v before on low high = before-by plan t u v before on low high (cases_lt v u)
+pub has-ended : (t end : ℕ) (o : Option Pair) (shown : Pair) → t ≤ end → (t < end → o ≡ Some shown) → is_some o ≡ false → t ≡ end
+has-ended t end o shown within answers none = elim (cases_lt t end) [
+  | inl early ↦ absurd (an-answer o shown (answers early) none)
+  | inr late ↦ omega (arith, within, late)
+]

@@ -20,3 +20,7 @@ pub mod AcceptedLaws
 pub mod PickedLaws
 pub mod PlaceLaws
 pub mod RoomLaws
+pub mod Delivering
+pub mod TableRun
+pub mod TableDeliveries
+pub mod Beginning

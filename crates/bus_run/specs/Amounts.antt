@@ -1,4 +1,4 @@
--- The bounds of a run: on its ticks, and on the attempts, bursts and words for which room is made.
+-- For how many attempts, bursts, words and deliveries room is made. That no run of an accepted plan has more is proved.
 use Rattle.std.specs.Prelude.{ℕ, ◌+◌, ◌*◌, min, length, sum_by}
 use Rattle.bus_formats.specs.Plans.{ItemData, FrameData, StationData, PlanData}
 
@@ -19,17 +19,6 @@ attempts_of_station station = station.repeat * sum_by attempts_of_frame station.
 -- all attempts that the items of a plan can have
 unfoldable pub most_attempts : PlanData → ℕ
 most_attempts plan = counted (sum_by attempts_of_station plan.stations)
-
-abbrev pub ticks_of_station : StationData → ℕ
-ticks_of_station station = station.repeat * sum_by (λ f. f.ticks) station.frames
-
--- the ticks of all frames
-unfoldable pub frame_ticks : PlanData → ℕ
-frame_ticks plan = counted (sum_by ticks_of_station plan.stations)
-
--- the bound on ticks: those of the frames, 10,000 for each attempt, and those before the first and after the last
-unfoldable pub most_ticks : PlanData → ℕ
-most_ticks plan = min 4294967295 (88 + frame_ticks plan + 10000 * most_attempts plan)
 
 -- three bursts for each attempt, each of forty words
 abbrev pub most_bursts : PlanData → ℕ

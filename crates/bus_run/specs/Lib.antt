@@ -4,9 +4,9 @@ pub mod Parts
 pub mod BurstListers
 pub mod Monitors
 pub mod StationRows
-pub mod Ends
 pub mod Terminals
 pub mod Stands
+pub mod Tables
 pub mod Kept
 pub mod Data
 pub mod Places

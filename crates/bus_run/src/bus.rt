@@ -1,5 +1,5 @@
-//! The bus of a plan, tick by tick.
-ghost use Rattle.std.specs.Prelude.{◌≡◌, ◌≤◌, ◌<◌, ◌+◌, ◌*◌, ◌||◌, nat_lt, ℕ, suc, List, [], map, length, true, false, Option, None, Some, IsSome};
+//! The bus of a plan, tick by tick, from its first tick to the tick in which its run by the message table ends.
+ghost use Rattle.std.specs.Prelude.{◌≡◌, ◌≤◌, ◌<◌, ◌+◌, ◌*◌, ℕ, suc, List, [], map, length, Option, None, Some, IsSome};
 ghost use Rattle.std.specs.Prelude.{All, IfOk, OnOk, OnErr};
 ghost use Rattle.bus_line.specs.Channels.{valid, bursts};
 ghost use Rattle.bus_line.specs.declared.cutter.TheConstants.{LAG};
@@ -14,11 +14,12 @@ ghost use Rattle.bus_run.specs.Deliveries.{Serves};
 ghost use Rattle.bus_run.specs.Kept.{places, IsPicked};
 ghost use Rattle.bus_run.specs.Rooms.{KeepRoom};
 ghost use Rattle.bus_run.specs.Parts.{StationsStand};
-ghost use Rattle.bus_run.specs.Ends.{has_ended};
-ghost use Rattle.bus_run.specs.Ends as ends;
-ghost use Rattle.bus_run.specs.Stands.{BusStands, Stands, EndsAfter, FinishedStands, shown_in};
+ghost use Rattle.bus_run.specs.Stands.{BusStands, Stands, FinishedStands, shown_in};
+ghost use Rattle.bus_run.specs.Tables.{TellTables};
+ghost use Rattle.bus_law_phases.specs.Passages.{IsOrderly};
+ghost use Rattle.bus_law_run.specs.WorldIsRun.{plan_scenario, plan_end};
 
-use crate::amounts::{most_attempts, most_ticks};
+use crate::amounts::most_attempts;
 use crate::driven_wire::DrivenWire;
 use crate::ends::Ends;
 use crate::finished::FinishedBus;
@@ -35,7 +36,8 @@ use std::alloc::{AllocError, Global};
 
 /// The stations of a plan over its wire, with a monitor beside them.
 ///
-/// It keeps no history: it stands for its plan and the number of ticks that it ran.
+/// It keeps no history: it stands for its plan and the number of ticks that it ran. `plan_end` is the tick in which the plan's run by the message table ends;
+/// that the world's run is over in that tick, and in none before, is proved, so nothing but the end of the run is tested.
 #[derive(Drop)]
 pub struct Bus {
     row: StationRow,
@@ -43,9 +45,6 @@ pub struct Bus {
     monitor: Monitor,
     ends: Ends,
     ticks: u64,
-    // the bounds of the run
-    most_ticks: u64,
-    most_attempts: u64,
 }
 
 impl Bus {
@@ -87,59 +86,29 @@ impl Bus {
             monitor,
             ends,
             ticks: 0,
-            most_ticks: most_ticks(plan),
-            most_attempts,
         })
     }
 
     /// Runs the next tick, and answers what both channels showed in it. Each block that the terminal of a station took is taken by the station's
-    /// object, if it names a subsystem. None exactly where the run has ended; then nothing changes. It takes no memory.
+    /// object, if it names a subsystem. None exactly in the tick in which the run by the message table ends; then nothing changes. In each tick before it
+    /// at most one station drives each channel, control is in one hand, and the world's run isn't over. It takes no memory.
     pub fn tick(&mut self, subsystems: &mut Vec<Box<dyn Subsystem>>) -> Option<Pair>
         requires { (plan : PlanData) × (t : ℕ) × (before : List (Option (List Delivery))) × BusStands plan t self.old × Serves plan before
             (world LAG plan [] [] [] t) (map (λ b. told b) subsystems.old.items) (map (λ b. spare b) subsystems.old.items) }
-        ensures ended { (plan : PlanData) (t : ℕ) → BusStands plan t self.old → has_ended plan t ≡ true →
+        ensures ended { (plan : PlanData) (t : ℕ) → BusStands plan t self.old → t ≡ plan_end plan →
             (result ≡ None) × (self.new ≡ self.old) × (subsystems.new.items ≡ subsystems.old.items) }
-        ensures shown { (plan : PlanData) (t : ℕ) → BusStands plan t self.old → has_ended plan t ≡ false →
+        ensures shown { (plan : PlanData) (t : ℕ) → BusStands plan t self.old → t < plan_end plan →
             (result ≡ Some (shown_in plan t)) × BusStands plan (suc t) self.new }
-        ensures serves { (plan : PlanData) (t : ℕ) (before : List (Option (List Delivery))) → BusStands plan t self.old → has_ended plan t ≡ false →
+        ensures orderly { (plan : PlanData) (t : ℕ) → BusStands plan t self.old → t < plan_end plan → IsOrderly (plan_scenario plan) t }
+        ensures serves { (plan : PlanData) (t : ℕ) (before : List (Option (List Delivery))) → BusStands plan t self.old → t < plan_end plan →
             Serves plan before (world LAG plan [] [] [] t) (map (λ b. told b) subsystems.old.items) (map (λ b. spare b) subsystems.old.items) →
             Serves plan before (world LAG plan [] [] [] (suc t)) (map (λ b. told b) subsystems.new.items) (map (λ b. spare b) subsystems.new.items) }
-        ensures nearer { IsSome result →
-            (self.new.most_ticks ≡ self.old.most_ticks) × (self.old.ticks < self.old.most_ticks) × (self.new.ticks ≡ self.old.ticks + 1) }
+        ensures nearer { IsSome result → (self.old.ticks < 0xFFFF_FFFF) × (self.new.ticks ≡ self.old.ticks + 1) }
     {
-        if self.has_ended() {
+        if self.is_over() {
             return None;
         }
         Some(self.step(subsystems))
-    }
-
-    // Whether the run has ended.
-    fn has_ended(&self) -> bool
-        requires { (plan : PlanData) × (t : ℕ) × BusStands plan t self.now }
-        ensures ended { (plan : PlanData) (t : ℕ) → BusStands plan t self.now → result ≡ has_ended plan t }
-        ensures within { result ≡ false → self.now.ticks < self.now.most_ticks }
-    {
-        if self.ticks >= self.most_ticks {
-            return true;
-        }
-        if self.is_outgrown() {
-            return true;
-        }
-        self.is_over()
-    }
-
-    // Whether there is room no more for what a tick may bring.
-    fn is_outgrown(&self) -> bool
-        requires { (plan : PlanData) × (t : ℕ) × BusStands plan t self.now }
-        ensures { (plan : PlanData) (t : ℕ) → BusStands plan t self.now → result ≡ ends.is_outgrown plan (world LAG plan [] [] [] t) }
-    {
-        is_past(
-            self.most_attempts,
-            self.row.attempts().len(),
-            self.monitor.words().len(),
-            self.monitor.bursts().len(),
-            self.row.delivering(),
-        )
     }
 
     // Whether nothing is left to do and both channels have been quiet long enough.
@@ -152,15 +121,14 @@ impl Bus {
 
     // One tick more of a run that hasn't ended.
     fn step(&mut self, subsystems: &mut Vec<Box<dyn Subsystem>>) -> Pair
-        requires { (plan : PlanData) × (t : ℕ) × (before : List (Option (List Delivery))) × BusStands plan t self.old × (has_ended plan t ≡ false)
+        requires { (plan : PlanData) × (t : ℕ) × (before : List (Option (List Delivery))) × BusStands plan t self.old × (t < plan_end plan)
             × Serves plan before (world LAG plan [] [] [] t) (map (λ b. told b) subsystems.old.items) (map (λ b. spare b) subsystems.old.items) }
-        ensures shown { (plan : PlanData) (t : ℕ) → BusStands plan t self.old → has_ended plan t ≡ false → result ≡ shown_in plan t }
-        ensures stands { (plan : PlanData) (t : ℕ) → BusStands plan t self.old → has_ended plan t ≡ false → BusStands plan (suc t) self.new }
-        ensures serves { (plan : PlanData) (t : ℕ) (before : List (Option (List Delivery))) → BusStands plan t self.old → has_ended plan t ≡ false →
+        ensures shown { (plan : PlanData) (t : ℕ) → BusStands plan t self.old → t < plan_end plan → result ≡ shown_in plan t }
+        ensures stands { (plan : PlanData) (t : ℕ) → BusStands plan t self.old → t < plan_end plan → BusStands plan (suc t) self.new }
+        ensures serves { (plan : PlanData) (t : ℕ) (before : List (Option (List Delivery))) → BusStands plan t self.old → t < plan_end plan →
             Serves plan before (world LAG plan [] [] [] t) (map (λ b. told b) subsystems.old.items) (map (λ b. spare b) subsystems.old.items) →
             Serves plan before (world LAG plan [] [] [] (suc t)) (map (λ b. told b) subsystems.new.items) (map (λ b. spare b) subsystems.new.items) }
         ensures ticks { self.new.ticks ≡ self.old.ticks + 1 }
-        ensures most { self.new.most_ticks ≡ self.old.most_ticks }
     {
         let shown = self.wire.show(self.row.stations());
         self.row.hear(Tick(self.ticks), shown, subsystems);
@@ -169,15 +137,16 @@ impl Bus {
         shown
     }
 
-    /// Runs to the end, and answers what the run leaves. Each block that the terminal of a station took is taken by the station's object, if it
-    /// names a subsystem. It takes no memory.
+    /// Runs to the tick in which the run by the message table ends, and answers what it leaves. Each block that the terminal of a station took is taken by
+    /// the station's object, if it names a subsystem: so an object that tells what it took tells in addition the blocks that the message table delivers to
+    /// its station. It takes no memory.
     pub fn finish(mut self, subsystems: &mut Vec<Box<dyn Subsystem>>) -> FinishedBus
         requires { (plan : PlanData) × (t : ℕ) × (before : List (Option (List Delivery))) × BusStands plan t self × Serves plan before
             (world LAG plan [] [] [] t) (map (λ b. told b) subsystems.old.items) (map (λ b. spare b) subsystems.old.items) }
         ensures { (plan : PlanData) (t : ℕ) (before : List (Option (List Delivery))) → BusStands plan t self →
             Serves plan before (world LAG plan [] [] [] t) (map (λ b. told b) subsystems.old.items) (map (λ b. spare b) subsystems.old.items) →
-            (u : ℕ) × EndsAfter plan t u × FinishedStands plan u result ×
-            Serves plan before (world LAG plan [] [] [] u) (map (λ b. told b) subsystems.new.items) (map (λ b. spare b) subsystems.new.items) }
+            FinishedStands plan result × TellTables plan before (map (λ b. told b) subsystems.new.items) ×
+            Serves plan before (world LAG plan [] [] [] (plan_end plan)) (map (λ b. told b) subsystems.new.items) (map (λ b. spare b) subsystems.new.items) }
     {
         'ticks: while self.tick(subsystems).is_some() {}
         self.close()
@@ -185,8 +154,8 @@ impl Bus {
 
     // What a run leaves that ends here.
     fn close(self) -> FinishedBus
-        requires { (plan : PlanData) × (t : ℕ) × BusStands plan t self }
-        ensures { (plan : PlanData) (t : ℕ) → BusStands plan t self → FinishedStands plan t result }
+        requires { (plan : PlanData) × BusStands plan (plan_end plan) self }
+        ensures { (plan : PlanData) → BusStands plan (plan_end plan) self → FinishedStands plan result }
     {
         let clashes = self.wire.clashes();
         let end = Tick(self.ticks);
@@ -245,22 +214,12 @@ impl Bus {
         self.wire.clashes()
     }
 
-    /// The ticks so far.
+    /// The ticks so far: never more than to the end of the run.
     #[tactic(auto, unfolding(crate::specs::Stands::BusStands))]
     pub fn ticks(&self) -> u64
-        ensures { (plan : PlanData) (t : ℕ) → BusStands plan t self.now → result ≡ t }
+        ensures are { (plan : PlanData) (t : ℕ) → BusStands plan t self.now → result ≡ t }
+        ensures within { (plan : PlanData) (t : ℕ) → BusStands plan t self.now → t ≤ plan_end plan }
     {
         self.ticks
     }
-}
-
-// Whether there are more attempts, words, bursts or ticks with a delivery than so many attempts can have.
-fn is_past(most: u64, attempts: usize, words: usize, bursts: usize, delivering: u64) -> bool
-    requires { most ≤ 0x8000_0000 }
-    ensures { result ≡ (nat_lt most attempts || (nat_lt (120 * most) words || (nat_lt (3 * most) bursts || nat_lt (3 * most) delivering))) }
-{
-    attempts as u64 > most
-        || words as u64 > 120 * most
-        || bursts as u64 > 3 * most
-        || delivering > 3 * most
 }

@@ -17,3 +17,4 @@ pub mod Noticing
 pub mod Listening
 pub mod Closed
 pub mod Own
+pub mod Waits

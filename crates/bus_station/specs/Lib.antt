@@ -6,3 +6,4 @@ pub mod Noticed
 pub mod Hears
 pub mod Heard
 pub mod Listening
+pub mod Needs

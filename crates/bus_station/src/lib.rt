@@ -9,6 +9,7 @@ mod role;
 mod station;
 #[cfg(test)]
 mod tests;
+pub mod waiting;
 
 pub use event::StationEvent;
 pub use laws::the_stations_of_an_accepted_plan_fit;

@@ -16,6 +16,7 @@ ghost use Rattle.bus_station.specs.StationStands.{StationStands, StationKeeps, A
 ghost use Rattle.bus_station.specs.Listening.{InStep, IsNext};
 ghost use Rattle.bus_receiver.specs.declared.cutters.Cutters.{Cutters};
 ghost use Rattle.bus_station.specs.Noticed.{noticed, TellsNewest, KeepsNewest, HasTold};
+ghost use Rattle.bus_station.specs.Needs as needs;
 ghost use Rattle.bus_station.specs.declared.event.StationEvent.TheVariants.{Nothing};
 
 use crate::event::StationEvent;
@@ -156,6 +157,16 @@ impl Station {
         } else {
             self.controller.drive()
         }
+    }
+
+    /// Whether it has to hear each tick: it holds control or is taking it, its terminal owes an answer or sends it, waits for a relay's answer that
+    /// hasn't begun, doesn't know yet the end of its own transmission, or hears by its own cutters. Any other station is left as it is by a tick with
+    /// which nothing becomes known, and sends nothing (`waiting`).
+    #[inline(always)]
+    pub fn needs_each_tick(&self) -> bool
+        ensures { result ≡ needs.needs_each_tick self.now }
+    {
+        !self.controller.is_yielded() || self.alone || self.terminal.needs_each_tick()
     }
 
     /// What it is to the others.

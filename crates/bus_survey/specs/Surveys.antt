@@ -1,14 +1,12 @@
 -- What a survey runs, and what it wrote.
-use Rattle.std.specs.Prelude.{◌≡◌, ℕ, ◌<◌, ◌≤◌, List, length, take, Option}
-use Rattle.std.specs.List.{AllZip}
+use Rattle.std.specs.Prelude.{◌≡◌, ℕ, ◌<◌, ◌≤◌, List, length, map, take, Option}
 use Rattle.std.specs.Io.KnownBytes.{Appends}
 use Rattle.bus_formats.specs.Logs.{LogData}
 use Rattle.bus_formats.specs.Plans.{PlanData}
 use Rattle.bus_formats.specs.declared.fault.Fault.{Fault}
 use Rattle.bus_line.specs.declared.cutter.TheConstants.{LAG}
-use Rattle.bus_model.specs.WorldLog.{world_log}
+use Rattle.bus_model.specs.Log.{run_log}
 use Rattle.bus_outside.specs.Causes.{Rose, GrowsByFront}
-use Rattle.bus_run.specs.Stands.{EndsAfter}
 use Rattle.bus_survey.specs.Alone.{with_fault_alone}
 use Rattle.bus_survey.specs.Lines.{fault_lines, survey_text}
 use Rattle.bus_survey.specs.declared.surveyed.Surveyed.{Surveyed}
@@ -16,30 +14,20 @@ use Rattle.bus_survey.specs.declared.surveyed.Surveyed.TheVariants.{Done, NoMemo
 
 -- ---- the runs
 
--- the log that is found in the world of the plan with this fault alone, at the end of its run
-pub record IsRunWith (plan : PlanData) (fault : Fault) (log : LogData) : Type 0 where
-  pub ticks : ℕ
-  pub ends : EndsAfter (with_fault_alone plan fault) 0 ticks
-  pub log_is : log ≡ world_log LAG (with_fault_alone plan fault) ticks
-
--- one such log for each of the faults, in their order
-abbrev pub AreRunsWith : PlanData → List Fault → List LogData → Type 0
-AreRunsWith plan faults logs = AllZip (IsRunWith plan) faults logs
+-- the logs of the runs of a plan with each of these faults alone, by the message table
+abbrev pub logs_of : PlanData → List Fault → List LogData
+logs_of plan faults = map (λ fault. run_log LAG (with_fault_alone plan fault)) faults
 
 -- ---- what was written
 
 module _ (plan : PlanData) (faults : List Fault) (held0 held1 : Option (List ℕ)) where
   -- so many of the faults were tried, and their lines were written
   pub record SurveyedSoFar (count : ℕ) : Type 0 where
-    pub logs : List LogData
-    pub runs : AreRunsWith plan (take count faults) logs
-    pub written : Appends held0 held1 (fault_lines 1 logs)
+    pub written : Appends held0 held1 (fault_lines 1 (logs_of plan (take count faults)))
 
   -- each fault was tried, and the whole text was written
   pub record SurveyedAll : Type 0 where
-    pub logs : List LogData
-    pub runs : AreRunsWith plan faults logs
-    pub written : Appends held0 held1 (survey_text logs)
+    pub written : Appends held0 held1 (survey_text (logs_of plan faults))
 
   -- the lines of the faults before one of them were written
   pub record SurveyedBefore : Type 0 where
@@ -49,9 +37,7 @@ module _ (plan : PlanData) (faults : List Fault) (held0 held1 : Option (List ℕ
 
   -- a front of the whole text was written
   pub record SurveyedFront : Type 0 where
-    pub logs : List LogData
-    pub runs : AreRunsWith plan faults logs
-    pub front : GrowsByFront held0 held1 (survey_text logs)
+    pub front : GrowsByFront held0 held1 (survey_text (logs_of plan faults))
 
   -- what each ending of a survey says
   abbrev pub Surveys : Surveyed → Type 0

@@ -1,14 +1,13 @@
 //! The run of a plan in which one fault alone strikes.
-ghost use Rattle.std.specs.Prelude.{◌≡◌, ℕ, [], IfOk};
+ghost use Rattle.std.specs.Prelude.{◌≡◌, [], IfOk};
 ghost use Rattle.bus_formats.specs.Accepted.{IsAccepted};
 ghost use Rattle.bus_run.specs.Kept.{places};
-ghost use Rattle.bus_run.specs.Stands.{EndsAfter, FinishedStands};
+ghost use Rattle.bus_run.specs.Stands.{FinishedStands};
 ghost use Rattle.bus_survey.specs.Alone.{with_fault_alone};
 
 use bus_formats::{Fault, Plan};
 use bus_run::copies::copy_faults;
-use bus_run::{Bus, FinishedBus};
-use bus_subsystem::Subsystem;
+use bus_run::{FinishedBus, run_without_subsystems};
 use std::alloc::{AllocError, Global};
 
 /// Runs a plan that names no subsystem with this fault alone, and answers what the run leaves. The plan keeps no other fault.
@@ -19,12 +18,11 @@ use std::alloc::{AllocError, Global};
 pub fn run_with(alloc: Global, plan: &mut Plan, fault: Fault) -> Result<FinishedBus, AllocError>
     requires accepted { IsAccepted (with_fault_alone plan.old fault) }
     requires none { places plan.old ≡ [] }
-    ensures ran { IfOk result (λ left. (ticks : ℕ) × EndsAfter (with_fault_alone plan.old fault) 0 ticks
-        × FinishedStands (with_fault_alone plan.old fault) ticks left) }
+    ensures ran { IfOk result (λ left. FinishedStands (with_fault_alone plan.old fault) left) }
     ensures alone { IfOk result (λ left. plan.new ≡ with_fault_alone plan.old fault) }
 {
     set_fault(alloc, plan, fault)?;
-    run_plan(alloc, plan)
+    run_without_subsystems(alloc, plan)
 }
 
 // Lets this fault alone strike in a plan.
@@ -33,15 +31,4 @@ fn set_fault(alloc: Global, plan: &mut Plan, fault: Fault) -> Result<(), AllocEr
 {
     plan.faults = copy_faults(alloc, &[fault])?;
     Ok(())
-}
-
-// Runs a plan that names no subsystem.
-fn run_plan(alloc: Global, plan: &Plan) -> Result<FinishedBus, AllocError>
-    requires accepted { IsAccepted plan.now }
-    requires none { places plan.now ≡ [] }
-    ensures { IfOk result (λ left. (ticks : ℕ) × EndsAfter plan.now 0 ticks × FinishedStands plan.now ticks left) }
-{
-    let mut subsystems: Vec<Box<dyn Subsystem>> = Vec::new(alloc);
-    let bus = Bus::prepare(alloc, plan, &mut subsystems)?;
-    Ok(bus.finish(&mut subsystems))
 }

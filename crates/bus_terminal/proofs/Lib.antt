@@ -26,3 +26,4 @@ pub mod Shows
 pub mod Waking
 pub mod Resting
 pub mod Loading
+pub mod Waits

@@ -8,3 +8,4 @@ pub mod Shown
 pub mod Quiet
 pub mod Heard
 pub mod Hearing
+pub mod Needs

@@ -16,6 +16,7 @@ ghost use Rattle.bus_terminal.specs.declared.common.Common.{Common as CommonData
 ghost use Rattle.bus_terminal.specs.Stands.{CommonStands};
 ghost use Rattle.bus_terminal.specs.Holding.{Listens, EarsStand, AreCuts, AreListened, listened_of};
 ghost use Rattle.bus_terminal.specs.Hearing.{HasListened};
+ghost use Rattle.bus_terminal.specs.Needs.{they_count};
 
 use bus_base::{Channel, Pair, Sample};
 use bus_ears::{Ear, Heard, HeardTick};
@@ -128,6 +129,14 @@ impl Ears {
             Channel::A => self.a.is_ignored(),
             Channel::B => self.b.is_ignored(),
         }
+    }
+
+    /// Whether the terminal's own transmission on a channel isn't known to be over, so that its quiet ticks are counted.
+    #[inline(always)]
+    pub(crate) fn count(&self) -> bool
+        ensures { result ≡ they_count self.now }
+    {
+        either(self.a.is_ignored(), self.b.is_ignored())
     }
 }
 

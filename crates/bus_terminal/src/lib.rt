@@ -14,6 +14,7 @@ mod state;
 mod terminal;
 #[cfg(test)]
 mod tests;
+pub mod waiting;
 
 pub use answering::Answering;
 pub use invariants::{

@@ -14,8 +14,9 @@ ghost use Rattle.bus_terminal.specs.Shown as shown;
 ghost use Rattle.bus_terminal.specs.declared.common.Common.{Common as CommonData};
 ghost use Rattle.bus_terminal.specs.Hearing.{StateHeard, AfterStep};
 ghost use Rattle.bus_terminal.specs.Steps as spec;
+ghost use Rattle.bus_terminal.specs.Needs.{state_needs};
 
-use crate::common::{BothHeard, Common};
+use crate::common::{BothHeard, Common, either};
 use crate::handling::{Handled, Performed, Waiting, perform};
 use crate::{Answering, Listening, Owing, Promised};
 use bus_base::{Channel, Drive, Pair, Part, Tick};
@@ -259,6 +260,17 @@ impl TerminalState {
             TerminalState::Answering(state) => state.drive(),
             TerminalState::Listening(_) | TerminalState::Promised(_) | TerminalState::Owing(_) =>
                 Drive::Silent,
+        }
+    }
+    /// Whether it has to hear each tick.
+    #[inline(always)]
+    pub(crate) fn needs_each_tick(&self) -> bool
+        ensures { result ≡ state_needs self.now }
+    {
+        match self {
+            TerminalState::Listening(state) => state.common.ears.count(),
+            TerminalState::Promised(state) => either(!state.heard, state.common.ears.count()),
+            TerminalState::Owing(_) | TerminalState::Answering(_) => true,
         }
     }
 }

@@ -14,6 +14,7 @@ ghost use Rattle.bus_terminal.specs.Quiet.{quiet_moments};
 ghost use Rattle.bus_terminal.specs.Stands.{AreMade, RestsFrom};
 ghost use Rattle.bus_terminal.specs.Shown.{common_of};
 ghost use Rattle.bus_terminal.specs.Hearing.{StateHeard};
+ghost use Rattle.bus_terminal.specs.Needs as needs;
 ghost use Rattle.bus_model.specs.Memory as kept;
 
 use crate::Listening;
@@ -108,6 +109,16 @@ impl Terminal {
             result ≡ drives LAG plan loads hearing }
     {
         self.state.drive()
+    }
+
+    /// Whether it has to hear each tick: it owes an answer or sends it, it waits for a relay's answer that hasn't begun, or the end of its own
+    /// transmission isn't known. Any other terminal is left as it is by a tick with which nothing becomes known, and sends nothing
+    /// (`waiting`).
+    #[inline(always)]
+    pub fn needs_each_tick(&self) -> bool
+        ensures { result ≡ needs.needs_each_tick self.now }
+    {
+        self.state.needs_each_tick()
     }
 
     /// Its registers.

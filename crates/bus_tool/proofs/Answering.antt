@@ -60,10 +60,8 @@ module _ (held0 held1 : Option (List ℕ)) (sink0 sink1 status : ℕ) (bus : Opt
         plan = plan;
         read = read;
         is_accepted = is_accepted;
-        ticks = run.0;
-        ends = run.1;
-        objects = run.2;
-        wrote = run.3;
+        objects = run.0;
+        wrote = run.1;
       }
       | inr wanting ↦ inr (inr wanting)
     ];

@@ -1,7 +1,8 @@
--- A run comes to an end, and its capture is written up to there.
-use Rattle.std.proofs.Common.{◌≡◌, ℕ, zero, suc, ◌+◌, Bool, true, false, List, [], ◌∷◌, ◌++◌, reverse, map, refl, sym, ◌∙◌, ap}
+-- A run comes to its end, and its capture is written up to there.
+use Rattle.std.proofs.Common.{◌≡◌, ℕ, zero, suc, ◌+◌, ◌-◌, ◌<◌, ◌≤◌, true, false, List, [], ◌∷◌, ◌++◌, reverse, map, refl, sym, ◌∙◌, ap, inl, inr}
 use Rattle.std.proofs.Common.{subst, arith, append_assoc, append-nil, Option, Some, None, Result, Ok, Err}
 use Rattle.std.specs.Prelude.{IsErr}
+use Rattle.std.proofs.lemmas.Bool.{cases_lt}
 use Rattle.std.proofs.lemmas.Option.{same_Some}
 use Rattle.std.proofs.lemmas.List.{reverse-append}
 use Rattle.std.specs.Io.KnownBytes.{Appends}
@@ -9,18 +10,17 @@ use Rattle.bus_base.specs.declared.samples.Pair.{Pair}
 use Rattle.bus_capture.specs.Captures.{ticks_text, header, capture_text}
 use Rattle.bus_formats.specs.Plans.{PlanData}
 use Rattle.bus_formats.specs.declared.log.Delivery.{Delivery}
+use Rattle.bus_law_run.specs.WorldIsRun.{plan_end}
 use Rattle.bus_line.specs.declared.cutter.TheConstants.{LAG}
 use Rattle.bus_model.specs.World.{world, ticks_on}
 use Rattle.bus_outside.specs.Causes.{GrowsByFront}
 use Rattle.bus_outside.specs.declared.streams.Failed.{Failed}
 use Rattle.bus_outside.proofs.Writes.{appends_then, front_then}
-use Rattle.bus_run.specs.Amounts.{most_ticks}
 use Rattle.bus_run.specs.Deliveries.{Serves}
-use Rattle.bus_run.specs.Ends.{has_ended}
-use Rattle.bus_run.specs.Stands.{BusStands, EndsAfter, FinishedStands, shown_in}
+use Rattle.bus_run.specs.Stands.{BusStands, FinishedStands, shown_in}
 use Rattle.bus_run.specs.declared.bus.Bus.{Bus}
 use Rattle.bus_run.specs.declared.finished.FinishedBus.{FinishedBus}
-use Rattle.bus_survey.proofs.RunEnds.{one-end, more-before, some-end, ends-somewhere}
+use Rattle.bus_run.proofs.FinishLaws.{within-end}
 use Rattle.bus_tool.specs.Captured.{Captured, Captures}
 use Rattle.bus_tool.specs.CaptureWriters.{begun_of, CaptureWriterStands, TookTick}
 use Rattle.bus_tool.specs.declared.capture_writer.CaptureWriter.{CaptureWriter}
@@ -37,11 +37,11 @@ older plan t (suc n) =
     let same : t + suc n ≡ suc (t + n) = omega arith in
     (shown_in plan (t + n) ∷ newer, rw same (ap (λ l. shown_in plan (t + n) ∷ l) is))
 
--- what was written so far is a front of the capture of the whole run
-pub front-of : (plan : PlanData) (t m : ℕ) (writer : CaptureWriter) (text : List ℕ) → CaptureWriterStands writer (world LAG plan [] [] [] t) text →
+-- what was written after some ticks is a front of the capture after more
+front-after : (plan : PlanData) (t m : ℕ) (writer : CaptureWriter) (text : List ℕ) → CaptureWriterStands writer (world LAG plan [] [] [] t) text →
     (rest : List ℕ) × (capture_text (world LAG plan [] [] [] (t + m)) ≡ (header ++ text) ++ rest)
 unfolding CaptureWriterStands capture_text
-front-of plan t m writer text st =
+front-after plan t m writer text st =
     let (newer, is) = older plan t m in
     let turned : reverse (world LAG plan [] [] [] (t + m)) ≡ (st.lines ++ begun_of writer) ++ reverse newer =
     ap reverse is ∙ reverse-append newer (world LAG plan [] [] [] t) ∙ ap (λ l. l ++ reverse newer) st.ticks in
@@ -50,6 +50,15 @@ front-of plan t m writer text st =
       ap (λ l. header ++ ticks_text 0 l) (turned ∙ append_assoc st.lines (begun_of writer) (reverse newer))
           ∙ ap (λ l. header ++ l) (st.written (begun_of writer ++ reverse newer)) ∙ sym (append_assoc header text rest),
     )
+
+-- so it is a front of the capture of the whole run
+front-of : (plan : PlanData) (t : ℕ) (writer : CaptureWriter) (text : List ℕ) → t ≤ plan_end plan →
+    CaptureWriterStands writer (world LAG plan [] [] [] t) text →
+    (rest : List ℕ) × (capture_text (world LAG plan [] [] [] (plan_end plan)) ≡ (header ++ text) ++ rest)
+front-of plan t writer text within st =
+    let (rest, is) = front-after plan t (plan_end plan - t) writer text st in
+    let there : t + (plan_end plan - t) ≡ plan_end plan = omega (arith, within) in
+    (rest, subst (λ n. capture_text (world LAG plan [] [] [] n) ≡ (header ++ text) ++ rest) there is)
 
 failed : (P : Result FinishedBus Failed → Type 0) (r : Result FinishedBus Failed) → IsErr r → ((e : Failed) → P (Err e)) → P r
 failed P (Ok left) is f = (let no : false ≡ true = is in cc)
@@ -63,16 +72,13 @@ keeps (Some bytes) = sym (append-nil bytes)
 -- a write of the next tick failed
 pub fails-taking : {T : Type 0} (plan : PlanData) (held0 held1 held2 : Option (List ℕ)) (bus : Bus) (writer writer' : CaptureWriter)
     (before told : List (Option (List Delivery))) (spare : List ℕ) (e : Failed) (r : Result FinishedBus Failed)
-    (so : Captures plan held0 held1 bus writer before told spare) → IsErr r → has_ended plan so.ticks ≡ false →
+    (so : Captures plan held0 held1 bus writer before told spare) → IsErr r → so.ticks < plan_end plan →
     TookTick {T = T} {E = Failed} held1 held2 (Err e) writer' (world LAG plan [] [] [] (suc so.ticks)) so.text → Captured plan held0 held2 r
 fails-taking plan held0 held1 held2 bus writer writer' before told spare e r so is on took =
-    let (m, ends) = some-end plan (most_ticks plan) (suc so.ticks) (omega arith) (more-before plan so.ticks so.goes_on on) in
-    let (rest, seen) = front-of plan (suc so.ticks) m writer' (so.text ++ took.piece) took.stands in
-    let whole : capture_text (world LAG plan [] [] [] (suc so.ticks + m)) ≡ (header ++ so.text) ++ (took.piece ++ rest) =
+    let (rest, seen) = front-of plan (suc so.ticks) writer' (so.text ++ took.piece) (omega (arith, on)) took.stands in
+    let whole : capture_text (world LAG plan [] [] [] (plan_end plan)) ≡ (header ++ so.text) ++ (took.piece ++ rest) =
     seen ∙ ap (λ l. l ++ rest) (sym (append_assoc header so.text took.piece)) ∙ append_assoc (header ++ so.text) took.piece rest in
     failed (Captured plan held0 held2) r is (λ _. record {
-      ticks = suc so.ticks + m;
-      ends = ends;
       wrote = rw whole (front_then held0 held1 held2 (header ++ so.text) took.piece rest so.written took.wrote);
     })
 
@@ -81,44 +87,35 @@ pub fails-beginning : (plan : PlanData) (held0 held1 : Option (List ℕ)) (r : R
     Captured plan held0 held1 r
 unfolding capture_text
 fails-beginning plan held0 held1 r is front =
-    let (m, ends) = ends-somewhere plan in
     failed (Captured plan held0 held1) r is (λ _. record {
-      ticks = 0 + m;
-      ends = ends;
-      wrote = front_then held0 held0 held1 [] header (ticks_text 0 (reverse (world LAG plan [] [] [] (0 + m)))) (keeps held0) front;
+      wrote = front_then held0 held0 held1 [] header (ticks_text 0 (reverse (world LAG plan [] [] [] (plan_end plan)))) (keeps held0) front;
     })
 
 -- a write of the last line failed
 pub fails-ending : (plan : PlanData) (held0 held1 held2 : Option (List ℕ)) (bus : Bus) (writer : CaptureWriter)
     (before told : List (Option (List Delivery))) (spare : List ℕ) (r : Result FinishedBus Failed)
-    (so : Captures plan held0 held1 bus writer before told spare) → IsErr r → has_ended plan so.ticks ≡ true →
+    (so : Captures plan held0 held1 bus writer before told spare) → IsErr r → so.ticks ≡ plan_end plan →
     GrowsByFront held1 held2 (ticks_text 0 (begun_of writer)) →
     Captured plan held0 held2 r
 fails-ending plan held0 held1 held2 bus writer before told spare r so is here front =
     let text = ticks_text 0 (begun_of writer) in
-    let whole : capture_text (world LAG plan [] [] [] so.ticks) ≡ (header ++ so.text) ++ (text ++ []) =
-    whole-text writer (world LAG plan [] [] [] so.ticks) so.text so.lines ∙ ap (λ l. (header ++ so.text) ++ l) (sym (append-nil text)) in
+    let whole : capture_text (world LAG plan [] [] [] (plan_end plan)) ≡ (header ++ so.text) ++ (text ++ []) =
+    ap (λ n. capture_text (world LAG plan [] [] [] n)) (sym here)
+    ∙ whole-text writer (world LAG plan [] [] [] so.ticks) so.text so.lines ∙ ap (λ l. (header ++ so.text) ++ l) (sym (append-nil text)) in
     failed (Captured plan held0 held2) r is (λ _. record {
-      ticks = so.ticks;
-      ends = record { later = omega arith; before = so.goes_on; ended = here };
       wrote = rw whole (front_then held0 held1 held2 (header ++ so.text) text [] so.written front);
     })
 
 -- all was written
 pub ends-whole : (plan : PlanData) (held0 held1 held2 : Option (List ℕ)) (bus : Bus) (writer : CaptureWriter)
     (before told : List (Option (List Delivery))) (spare : List ℕ) (left : FinishedBus)
-    (so : Captures plan held0 held1 bus writer before told spare) → has_ended plan so.ticks ≡ true → Appends held1 held2 (ticks_text 0 (begun_of writer)) →
-    (u : ℕ) → EndsAfter plan so.ticks u → FinishedStands plan u left → Captured {E = Failed} plan held0 held2 (Ok left)
-ends-whole plan held0 held1 held2 bus writer before told spare left so here added u ends finished =
+    (so : Captures plan held0 held1 bus writer before told spare) → so.ticks ≡ plan_end plan → Appends held1 held2 (ticks_text 0 (begun_of writer)) →
+    FinishedStands plan left → Captured {E = Failed} plan held0 held2 (Ok left)
+ends-whole plan held0 held1 held2 bus writer before told spare left so here added finished =
     let text = ticks_text 0 (begun_of writer) in
-    let whole : capture_text (world LAG plan [] [] [] so.ticks) ≡ (header ++ so.text) ++ text =
-    whole-text writer (world LAG plan [] [] [] so.ticks) so.text so.lines in
-    let same : u ≡ so.ticks = one-end plan so.ticks u ends here in
-    record {
-      ticks = so.ticks;
-      ends = record { later = omega arith; before = so.goes_on; ended = here };
-      wrote = (rw same at finished, rw whole (appends_then held0 held1 held2 (header ++ so.text) text so.written added));
-    }
+    let whole : capture_text (world LAG plan [] [] [] (plan_end plan)) ≡ (header ++ so.text) ++ text =
+    ap (λ n. capture_text (world LAG plan [] [] [] n)) (sym here) ∙ whole-text writer (world LAG plan [] [] [] so.ticks) so.text so.lines in
+    record { wrote = (finished, rw whole (appends_then held0 held1 held2 (header ++ so.text) text so.written added)) }
 
 -- the header was written, and no tick ran
 pub begins-capture : (plan : PlanData) (held0 held1 : Option (List ℕ)) (bus : Bus) (writer : CaptureWriter)
@@ -130,7 +127,6 @@ begins-capture plan held0 held1 bus writer before told spare stands serves lines
   ticks = 0;
   stands = stands;
   serves = serves;
-  goes_on = λ i least within. absurd (omega (arith, within));
   text = [];
   lines = lines;
   written = subst (λ l. Appends held0 held1 l) (sym (append-nil header)) written;
@@ -139,15 +135,14 @@ begins-capture plan held0 held1 bus writer before told spare stands serves lines
 -- a tick was written
 pub goes-on-capture : {T : Type 0} (plan : PlanData) (held0 held1 held2 : Option (List ℕ)) (bus bus' : Bus) (writer writer' : CaptureWriter)
     (before told told' : List (Option (List Delivery))) (spare spare' : List ℕ) (done : T)
-    (so : Captures plan held0 held1 bus writer before told spare) → has_ended plan so.ticks ≡ false → BusStands plan (suc so.ticks) bus' →
+    (so : Captures plan held0 held1 bus writer before told spare) → BusStands plan (suc so.ticks) bus' →
     Serves plan before (world LAG plan [] [] [] (suc so.ticks)) told' spare' →
     TookTick {T = T} {E = Failed} held1 held2 (Ok done) writer' (world LAG plan [] [] [] (suc so.ticks)) so.text →
     Captures plan held0 held2 bus' writer' before told' spare'
-goes-on-capture plan held0 held1 held2 bus bus' writer writer' before told told' spare spare' done so on stands serves took = record {
+goes-on-capture plan held0 held1 held2 bus bus' writer writer' before told told' spare spare' done so stands serves took = record {
   ticks = suc so.ticks;
   stands = stands;
   serves = serves;
-  goes_on = more-before plan so.ticks so.goes_on on;
   text = so.text ++ took.piece;
   lines = took.stands;
   written = subst (λ l. Appends held0 held2 l) (append_assoc header so.text took.piece)
@@ -162,27 +157,28 @@ serves-still tells room plan before past objects objects' same serves = rw same 
 
 -- ---- one turn
 
--- a tick that was answered is the next one of the run
-pub tick-ran : {Rest : Type 0} (plan : PlanData) (t : ℕ) (bus bus' : Bus) (result : Option Pair) (shown : Pair) → result ≡ Some shown →
-    (has_ended plan t ≡ true → (result ≡ None) × (bus' ≡ bus) × Rest) →
-    (has_ended plan t ≡ false → (result ≡ Some (shown_in plan t)) × BusStands plan (suc t) bus') →
-    (has_ended plan t ≡ false) × (shown ≡ shown_in plan t) × BusStands plan (suc t) bus'
-tick-ran plan t bus bus' result shown is ended runs = go (has_ended plan t) refl
-  where
-    go : (test : Bool) → has_ended plan t ≡ test → (has_ended plan t ≡ false) × (shown ≡ shown_in plan t) × BusStands plan (suc t) bus'
-    go true here = (let no : Some shown ≡ None = sym is ∙ (ended here).0 in cc)
-    go false on = (on, same_Some shown (shown_in plan t) (sym is ∙ (runs on).0), (runs on).1)
+module _ {Rest : Type 0} (plan : PlanData) (t : ℕ) (bus bus' : Bus) (result : Option Pair) (stands : BusStands plan t bus)
+    (ended : t ≡ plan_end plan → (result ≡ None) × (bus' ≡ bus) × Rest)
+    (runs : t < plan_end plan → (result ≡ Some (shown_in plan t)) × BusStands plan (suc t) bus') where
+  -- a tick that was answered is the next one of the run
+  pub tick-ran : (shown : Pair) → result ≡ Some shown → (t < plan_end plan) × (shown ≡ shown_in plan t) × BusStands plan (suc t) bus'
+  tick-ran shown is = elim (cases_lt t (plan_end plan)) [
+    | inl early ↦ (early, same_Some shown (shown_in plan t) (sym is ∙ (runs early).0), (runs early).1)
+    | inr late ↦
+        let within = within-end plan t bus stands in
+        let here : t ≡ plan_end plan = omega (arith, within, late) in
+        let no : Some shown ≡ None = sym is ∙ (ended here).0 in cc
+  ]
 
--- and where none was, the run has ended
-pub tick-ended : {Rest : Type 0} (plan : PlanData) (t : ℕ) (bus bus' : Bus) (result : Option Pair) → result ≡ None →
-    (has_ended plan t ≡ true → (result ≡ None) × (bus' ≡ bus) × Rest) →
-    (has_ended plan t ≡ false → (result ≡ Some (shown_in plan t)) × BusStands plan (suc t) bus') →
-    (has_ended plan t ≡ true) × (bus' ≡ bus) × Rest
-tick-ended {Rest = Rest} plan t bus bus' result is ended runs = go (has_ended plan t) refl
-  where
-    go : (test : Bool) → has_ended plan t ≡ test → (has_ended plan t ≡ true) × (bus' ≡ bus) × Rest
-    go true here = (here, (ended here).1, (ended here).2)
-    go false on = (let no : Some (shown_in plan t) ≡ None = sym (runs on).0 ∙ is in cc)
+  -- and where none was, the run has ended
+  pub tick-ended : result ≡ None → (t ≡ plan_end plan) × (bus' ≡ bus) × Rest
+  tick-ended is = elim (cases_lt t (plan_end plan)) [
+    | inl early ↦ (let no : Some (shown_in plan t) ≡ None = sym (runs early).0 ∙ is in cc)
+    | inr late ↦
+        let within = within-end plan t bus stands in
+        let here : t ≡ plan_end plan = omega (arith, within, late) in
+        (here, (ended here).1, (ended here).2)
+  ]
 
 -- a writer that took a tick shown in this plan's world stands for one tick more
 pub took-next : {T E : Type 0} (plan : PlanData) (t : ℕ) (held0 held1 : Option (List ℕ)) (result : Result T E) (writer : CaptureWriter) (shown : Pair)

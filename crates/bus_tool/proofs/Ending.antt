@@ -8,8 +8,7 @@ use Rattle.bus_outside.specs.Causes.{Rose}
 use Rattle.bus_formats.specs.Logs.{LogData}
 use Rattle.bus_formats.specs.declared.log.Delivery.{Delivery}
 use Rattle.bus_line.specs.declared.cutter.TheConstants.{LAG}
-use Rattle.bus_model.specs.Log.{all_went_well}
-use Rattle.bus_model.specs.WorldLog.{world_log}
+use Rattle.bus_model.specs.Log.{all_went_well, run_log}
 use Rattle.bus_run.specs.declared.finished.FinishedBus.{FinishedBus}
 use Rattle.bus_tool.specs.Answers.{Answers}
 use Rattle.bus_tool.specs.Due.{input_refusal}
@@ -38,13 +37,13 @@ told_input told input (Some rest) r =
     let front : input ≡ take 4194305 (input ++ rest) = front_or_all input rest r.short r.whole in
     front ∙ ap (λ l. take 4194305 l) (sym r.consumed)
 
-zero-or-one : (s : ℕ) → s ≤ 1 → (s ≡ 0) ⊎ (s ≡ 1) ⊎ (s ≡ 6)
+pub zero-or-one : (s : ℕ) → s ≤ 1 → (s ≡ 0) ⊎ (s ≡ 1) ⊎ (s ≡ 6)
 zero-or-one zero few = inl refl
 zero-or-one (suc zero) few = inr (inl refl)
 zero-or-one (suc (suc n)) few = absurd (omega (arith, few))
 
 -- the status after a run is 0 or 1
-status-few : (log : LogData) → status_of log ≤ 1
+pub status-few : (log : LogData) → status_of log ≤ 1
 status-few log = go (all_went_well log)
   where
     go : (well : Bool) → (if well then 0 else 1) ≤ 1
@@ -133,30 +132,28 @@ module _ (left0 left1 held0 held1 : Option (List ℕ)) (source0 source1 sink0 si
   answered input status bus read answers = elim answers.answer [
     | inl ran ↦ elim ran.wrote [
       | inl done ↦
-          let few = status-few (world_log LAG (plan_run text ran.plan) ran.ticks) in
+          let few = status-few (run_log LAG (plan_run text ran.plan)) in
           ran_ends status bus (rw done.status_is few) record {
             input = input;
             read = read;
             accepted = ran.accepted;
             plan = ran.plan;
             is_plan = ran.read;
-            ticks = ran.ticks;
-            ends = ran.ends;
             left = done.left;
             has = done.has;
             stands = done.stands;
             objects = ran.objects;
             status_is = done.status_is;
             written = done.written;
-            tables = tables-run text ran.plan ran.ticks said1 status ran.is_accepted ran.ends done.status_is;
+            tables = tables-run text ran.plan ran.is_accepted;
           }
       | inr failed ↦ rw (failed.status_is, failed.no_bus) (stopped_ends failed.failed record {
         input = input;
         read = read;
-        bytes = text_of text (plan_run text ran.plan) ran.ticks said1;
+        bytes = text_of text (plan_run text ran.plan) said1;
         due = inr (
           ran.accepted,
-          record { plan = ran.plan; read = ran.read; ticks = ran.ticks; ends = ran.ends; objects = ran.objects; bytes_are = refl },
+          record { plan = ran.plan; read = ran.read; objects = ran.objects; bytes_are = refl },
         );
         front = failed.front;
       })

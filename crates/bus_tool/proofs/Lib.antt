@@ -6,4 +6,5 @@ pub mod Serving
 pub mod WrittenLines
 pub mod TablesRun
 pub mod Surveying
+pub mod Benching
 mod Loading

@@ -19,6 +19,7 @@ use Rattle.bus_tool.specs.Due.{input_refusal, load_refusal, offer_line, offer_re
 use Rattle.bus_tool.specs.Ends.{ReadsInput, Reckoned, WasRefusedLoad, StoppedLoad, IsFine, EndsLoad}
 use Rattle.bus_tool.specs.Objects.{AreSame}
 use Rattle.bus_tool.proofs.Answering.{accepted-input}
+use Rattle.bus_tool.proofs.TablesRun.{in-time}
 use Rattle.bus_tool.proofs.Ending.{told_input}
 
 -- ---- which input is refused
@@ -194,9 +195,11 @@ module _ (left0 left1 held0 held1 : Option (List ℕ)) (source0 source1 sink0 si
         is_plan = ran.read;
         written = done.1;
         long = λ is faults accepted.
-            long-starts LAG (with_faults faults ran.plan) [] (omega arith) accepted (no-offer input ran.plan ran.accepted ran.read) is;
+            in-time (with_faults faults ran.plan) accepted
+            (long-starts LAG (with_faults faults ran.plan) [] (omega arith) accepted (no-offer input ran.plan ran.accepted ran.read) is);
         short = λ is faults accepted brief.
-            short-starts LAG (with_faults faults ran.plan) [] (omega arith) accepted (no-offer input ran.plan ran.accepted ran.read) is brief;
+            in-time (with_faults faults ran.plan) accepted
+            (short-starts LAG (with_faults faults ran.plan) [] (omega arith) accepted (no-offer input ran.plan ran.accepted ran.read) is brief);
       })
       | inr failed ↦ rw failed.0 (stopped_ends failed.1 record {
         input = input;

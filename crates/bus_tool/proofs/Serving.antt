@@ -5,11 +5,12 @@ use Rattle.bus_formats.specs.Logs.{LogData}
 use Rattle.bus_formats.specs.Plans.{PlanData}
 use Rattle.bus_formats.specs.declared.log.Delivery.{Delivery}
 use Rattle.bus_line.specs.declared.cutter.TheConstants.{LAG}
+use Rattle.bus_law_run.specs.WorldIsRun.{plan_end}
 use Rattle.bus_model.specs.World.{world}
 use Rattle.bus_report.specs.Report.{report_text}
 use Rattle.bus_run.specs.Deliveries.{Serves}
 use Rattle.bus_run.specs.Kept.{places, IsPicked}
-use Rattle.bus_run.specs.Stands.{EndsAfter}
+use Rattle.bus_run.specs.Tables.{TellTables}
 use Rattle.bus_run.specs.declared.finished.FinishedBus.{FinishedBus}
 use Rattle.bus_tool.specs.Answers.{AnswersRun, Wrote}
 use Rattle.bus_tool.specs.Texts.{text_of}
@@ -18,13 +19,13 @@ use Rattle.bus_tool.specs.declared.text.Text.TheVariants.{Report}
 -- the answer to a plan that was run for its report
 pub served-after : (held0 held1 : Option (List ℕ)) (sink0 sink1 status : ℕ) (bus : Option FinishedBus)
     (told0 told1 : List (Option (List Delivery))) (said0 said1 : List (List ℕ)) (spare0 spare1 : List ℕ) (plan : PlanData) (before : List (Option (List Delivery)))
-    (ticks : ℕ) → sink0 ≤ sink1 → EndsAfter plan 0 ticks → IsPicked told0 (places plan) before →
-    Serves plan before (world LAG plan [] [] [] ticks) told1 spare1 →
-    Wrote held0 held1 sink0 sink1 status bus (text_of Report plan ticks said1) plan ticks →
+    → sink0 ≤ sink1 → IsPicked told0 (places plan) before → TellTables plan before told1 →
+    Serves plan before (world LAG plan [] [] [] (plan_end plan)) told1 spare1 →
+    Wrote held0 held1 sink0 sink1 status bus (text_of Report plan said1) plan →
     AnswersRun held0 held1 sink0 sink1 status bus told0 told1 said0 said1 spare0 spare1 Report plan
-served-after held0 held1 sink0 sink1 status bus told0 told1 said0 said1 spare0 spare1 plan before ticks later ends picked serves wrote = record {
+served-after held0 held1 sink0 sink1 status bus told0 told1 said0 said1 spare0 spare1 plan before later picked tables serves wrote = record {
   later = later;
-  answer = inl (ticks, ends, record { before = before; picked = picked; all_before = serves.all_before; all = serves.all; told = serves.tells }, wrote);
+  answer = inl (record { before = before; picked = picked; tables = tables; told = serves.tells }, wrote);
 }
 
 -- the report of the log that is found

@@ -168,10 +168,8 @@ module _ (left0 left1 held0 held1 : Option (List ℕ)) (source0 source1 sink0 si
     accepted = accepted;
     plan = plan;
     is_plan = is_plan;
-    logs = surveys.logs;
-    runs = surveys.runs;
     written = surveys.written;
-    tables = survey-told plan is_accepted surveys.logs surveys.runs;
+    tables = survey-told plan is_accepted;
   }
   survey_ends input read accepted plan is_plan is_accepted NoMemory surveys cause = memory_ends (inr record {
     input = input;
@@ -185,7 +183,7 @@ module _ (left0 left1 held0 held1 : Option (List ℕ)) (source0 source1 sink0 si
     input = input;
     read = read;
     bytes = _;
-    due = inr (accepted, record { plan = plan; read = is_plan; logs = surveys.logs; runs = surveys.runs; bytes_are = refl });
+    due = inr (accepted, record { plan = plan; read = is_plan; bytes_are = refl });
     front = surveys.front;
   }
 

@@ -7,9 +7,9 @@ use Rattle.bus_formats.specs.Plans.{PlanData, without_subsystems}
 use Rattle.bus_formats.specs.declared.log.Delivery.{Delivery}
 use Rattle.bus_line.specs.declared.cutter.TheConstants.{LAG}
 use Rattle.bus_load.specs.Lines.{load_text}
-use Rattle.bus_model.specs.WorldLog.{world_log}
+use Rattle.bus_model.specs.Log.{run_log}
 use Rattle.bus_plan.specs.PlanOf.{plan_of_bytes}
-use Rattle.bus_run.specs.Stands.{EndsAfter, FinishedStands}
+use Rattle.bus_run.specs.Stands.{FinishedStands}
 use Rattle.bus_run.specs.declared.finished.FinishedBus.{FinishedBus}
 use Rattle.bus_survey.specs.Surveys.{Surveys, SurveyHasCause}
 use Rattle.bus_survey.specs.declared.surveyed.Surveyed.{Surveyed}
@@ -31,12 +31,12 @@ module _ (held0 held1 : Option (List ℕ)) (sink0 sink1 : ℕ) (status : ℕ) (b
     pub no_bus : bus ≡ None
     pub wrote : WroteDue held0 held1 sink0 sink1 status 3 line
 
-  -- the whole text of a run of so many ticks was written, and the answer has the bus that ran them
-  pub record WroteRun (bytes : List ℕ) (plan : PlanData) (ticks : ℕ) : Type 0 where
+  -- the whole text of a run was written, and the answer has the bus that ran it
+  pub record WroteRun (bytes : List ℕ) (plan : PlanData) : Type 0 where
     pub left : FinishedBus
     pub has : bus ≡ Some left
-    pub stands : FinishedStands plan ticks left
-    pub status_is : status ≡ status_of (world_log LAG plan ticks)
+    pub stands : FinishedStands plan left
+    pub status_is : status ≡ status_of (run_log LAG plan)
     pub written : Appends held0 held1 bytes
 
   -- a front of it was written, where the sink failed
@@ -46,9 +46,9 @@ module _ (held0 held1 : Option (List ℕ)) (sink0 sink1 : ℕ) (status : ℕ) (b
     pub failed : Rose sink0 sink1
     pub front : GrowsByFront held0 held1 bytes
 
-  -- what was written of a run of so many ticks
-  abbrev pub Wrote : List ℕ → PlanData → ℕ → Type 0
-  Wrote bytes plan ticks = WroteRun bytes plan ticks ⊎ WroteFront bytes
+  -- what was written of a run
+  abbrev pub Wrote : List ℕ → PlanData → Type 0
+  Wrote bytes plan = WroteRun bytes plan ⊎ WroteFront bytes
 
 module _ (held0 held1 : Option (List ℕ)) (sink0 sink1 : ℕ) (status : ℕ) (bus : Option FinishedBus)
     (told0 told1 : List (Option (List Delivery))) (said0 said1 : List (List ℕ)) (spare0 spare1 : List ℕ) where
@@ -62,8 +62,8 @@ module _ (held0 held1 : Option (List ℕ)) (sink0 sink1 : ℕ) (status : ℕ) (b
   -- the answer to a plan that is run
   pub record AnswersRun (text : Text) (plan : PlanData) : Type 0 where
     pub later : sink0 ≤ sink1
-    pub answer : ((ticks : ℕ) × EndsAfter plan 0 ticks × AfterRun told0 told1 said0 said1 spare0 spare1 text plan ticks
-        × Wrote held0 held1 sink0 sink1 status bus (text_of text plan ticks said1) plan ticks) ⊎ WantedMemory text
+    pub answer : (AfterRun told0 told1 said0 said1 spare0 spare1 text plan × Wrote held0 held1 sink0 sink1 status bus (text_of text plan said1) plan)
+        ⊎ WantedMemory text
 
   -- the plan that was read was run
   pub record RanPlan (text : Text) (input : List ℕ) : Type 0 where
@@ -71,10 +71,8 @@ module _ (held0 held1 : Option (List ℕ)) (sink0 sink1 : ℕ) (status : ℕ) (b
     pub plan : PlanData
     pub read : plan_of_bytes input ≡ Ok plan
     pub is_accepted : IsAccepted plan
-    pub ticks : ℕ
-    pub ends : EndsAfter (plan_run text plan) 0 ticks
-    pub objects : AfterRun told0 told1 said0 said1 spare0 spare1 text (plan_run text plan) ticks
-    pub wrote : Wrote held0 held1 sink0 sink1 status bus (text_of text (plan_run text plan) ticks said1) (plan_run text plan) ticks
+    pub objects : AfterRun told0 told1 said0 said1 spare0 spare1 text (plan_run text plan)
+    pub wrote : Wrote held0 held1 sink0 sink1 status bus (text_of text (plan_run text plan) said1) (plan_run text plan)
 
   -- the input was refused with its line, and the objects stay
   pub record WasRefusedWith (input : List ℕ) : Type 0 where

@@ -1,5 +1,5 @@
 -- The capture of a run is written.
-use Rattle.std.specs.Prelude.{◌≡◌, ℕ, ◌≤◌, ◌<◌, false, List, [], ◌++◌, Option, Result, MatchResult}
+use Rattle.std.specs.Prelude.{ℕ, List, [], ◌++◌, Option, Result, MatchResult}
 use Rattle.std.specs.Io.KnownBytes.{Appends}
 use Rattle.bus_capture.specs.Captures.{header, capture_text}
 use Rattle.bus_formats.specs.Plans.{PlanData}
@@ -8,20 +8,18 @@ use Rattle.bus_line.specs.declared.cutter.TheConstants.{LAG}
 use Rattle.bus_model.specs.World.{world}
 use Rattle.bus_outside.specs.Causes.{GrowsByFront}
 use Rattle.bus_run.specs.Deliveries.{Serves}
-use Rattle.bus_run.specs.Ends.{has_ended}
-use Rattle.bus_run.specs.Stands.{BusStands, EndsAfter, FinishedStands}
+use Rattle.bus_law_run.specs.WorldIsRun.{plan_end}
+use Rattle.bus_run.specs.Stands.{BusStands, FinishedStands}
 use Rattle.bus_run.specs.declared.bus.Bus.{Bus}
 use Rattle.bus_run.specs.declared.finished.FinishedBus.{FinishedBus}
 use Rattle.bus_tool.specs.CaptureWriters.{CaptureWriterStands}
 use Rattle.bus_tool.specs.declared.capture_writer.CaptureWriter.{CaptureWriter}
 
--- the run ends after so many ticks; its capture was written whole, and this bus is left, or a front of it was written
+-- the capture of the whole run was written, and this bus is left, or a front of it was written
 pub record Captured {E : Type 0} (plan : PlanData) (held0 held1 : Option (List ℕ)) (result : Result FinishedBus E) : Type 0 where
-  pub ticks : ℕ
-  pub ends : EndsAfter plan 0 ticks
   pub wrote : MatchResult result
-      (λ left. FinishedStands plan ticks left × Appends held0 held1 (capture_text (world LAG plan [] [] [] ticks)))
-      (λ _. GrowsByFront held0 held1 (capture_text (world LAG plan [] [] [] ticks)))
+      (λ left. FinishedStands plan left × Appends held0 held1 (capture_text (world LAG plan [] [] [] (plan_end plan))))
+      (λ _. GrowsByFront held0 held1 (capture_text (world LAG plan [] [] [] (plan_end plan))))
 
 -- in the midst of it: so many ticks ran with these objects, and the lines that they fill were written
 pub record Captures (plan : PlanData) (held0 held1 : Option (List ℕ)) (bus : Bus) (writer : CaptureWriter)
@@ -29,7 +27,6 @@ pub record Captures (plan : PlanData) (held0 held1 : Option (List ℕ)) (bus : B
   pub ticks : ℕ
   pub stands : BusStands plan ticks bus
   pub serves : Serves plan before (world LAG plan [] [] [] ticks) told spare
-  pub goes_on : (t : ℕ) → 0 ≤ t → t < ticks → has_ended plan t ≡ false
   pub text : List ℕ
   pub lines : CaptureWriterStands writer (world LAG plan [] [] [] ticks) text
   pub written : Appends held0 held1 (header ++ text)

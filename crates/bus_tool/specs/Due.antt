@@ -3,7 +3,6 @@ use Rattle.std.specs.Prelude.{◌≡◌, ℕ, ◌⊎◌, nat_lt, if◌then◌els
 use Rattle.std.specs.Option.{option_or}
 use Rattle.bus_capture.specs.declared.refusal.CaptureRefusal.{CaptureRefusal}
 use Rattle.bus_capture.specs.declared.refusal.CaptureRefusal.TheVariants.{Header, Byte, HalfTick, Long}
-use Rattle.bus_formats.specs.Logs.{LogData}
 use Rattle.bus_formats.specs.Plans.{PlanData, without_subsystems}
 use Rattle.bus_formats.specs.declared.log.Delivery.{Delivery}
 use Rattle.bus_load.specs.Lines.{load_text}
@@ -12,9 +11,8 @@ use Rattle.bus_load.specs.declared.reckoned.OfferPlace.{OfferPlace}
 use Rattle.bus_plan.specs.PlanOf.{plan_of_bytes}
 use Rattle.bus_plan.specs.Refusals.{number_of, name_of, place_of}
 use Rattle.bus_plan.specs.declared.refusal.PlanRefusal.{PlanRefusal}
-use Rattle.bus_run.specs.Stands.{EndsAfter}
 use Rattle.bus_survey.specs.Lines.{survey_text}
-use Rattle.bus_survey.specs.Surveys.{AreRunsWith}
+use Rattle.bus_survey.specs.Surveys.{logs_of}
 use Rattle.bus_text.specs.Texts.{line, number, spaced}
 use Rattle.bus_tool.specs.Objects.{AreSame, AfterRun}
 use Rattle.bus_tool.specs.Texts.{plan_run, text_of}
@@ -62,10 +60,8 @@ module _ (told0 told1 : List (Option (List Delivery))) (said0 said1 : List (List
   pub record IsRunOf (text : Text) (input bytes : List ℕ) : Type 0 where
     pub plan : PlanData
     pub read : plan_of_bytes input ≡ Ok plan
-    pub ticks : ℕ
-    pub ends : EndsAfter (plan_run text plan) 0 ticks
-    pub objects : AfterRun told0 told1 said0 said1 spare0 spare1 text (plan_run text plan) ticks
-    pub bytes_are : bytes ≡ text_of text (plan_run text plan) ticks said1
+    pub objects : AfterRun told0 told1 said0 said1 spare0 spare1 text (plan_run text plan)
+    pub bytes_are : bytes ≡ text_of text (plan_run text plan) said1
 
   -- bytes that are due for an input, with the objects as they are then: the line of a refusal, at which they stay, or the text of a run
   abbrev pub IsDue : Text → List ℕ → List ℕ → Type 0
@@ -76,9 +72,7 @@ module _ (told0 told1 : List (Option (List Delivery))) (said0 said1 : List (List
 pub record IsSurveyOf (input bytes : List ℕ) : Type 0 where
   pub plan : PlanData
   pub read : plan_of_bytes input ≡ Ok plan
-  pub logs : List LogData
-  pub runs : AreRunsWith (without_subsystems plan) plan.faults logs
-  pub bytes_are : bytes ≡ survey_text logs
+  pub bytes_are : bytes ≡ survey_text (logs_of (without_subsystems plan) plan.faults)
 
 -- bytes that are due for an input whose plan is surveyed: the line of a refusal, or the text of the survey
 abbrev pub IsSurveyDue : List ℕ → List ℕ → Type 0

@@ -2,7 +2,7 @@
 -- subsystems. Everything is said over what the source had left and the sink held before and after, where they tell it, over their counts of
 -- faults, and over what the objects told and said and their room before and after, in their order.
 use Rattle.std.specs.List.{AllByRecursion as Each}
-use Rattle.std.specs.Prelude.{◌≡◌, ℕ, ◌+◌, ◌≤◌, ◌⊎◌, List, [], take, length, Option, Some, None, Ok}
+use Rattle.std.specs.Prelude.{◌≡◌, ℕ, ◌+◌, ◌≤◌, ◌⊎◌, List, take, length, Option, Some, None, Ok}
 use Rattle.std.specs.Io.KnownBytes.{Consumes, IsAtEnd, Appends}
 use Rattle.bus_base.specs.declared.samples.Pair.{Pair}
 use Rattle.bus_line.specs.declared.cutter.TheConstants.{LAG}
@@ -11,26 +11,27 @@ use Rattle.bus_monitor.specs.Progress.{word_lines, message_lines}
 use Rattle.bus_monitor.specs.Scribes.{IsListed, ListingHasCause}
 use Rattle.bus_monitor.specs.declared.listing.Listing.{Listing}
 use Rattle.bus_monitor.specs.declared.listing.Listing.TheVariants.{Done, Refused, ReadFault, WriteFault}
-use Rattle.bus_formats.specs.Logs.{LogData}
 use Rattle.bus_formats.specs.Plans.{PlanData, without_subsystems}
 use Rattle.bus_formats.specs.declared.log.Delivery.{Delivery}
 use Rattle.bus_formats.specs.Accepted.{IsAccepted}
 use Rattle.bus_formats.specs.declared.fault.Fault.{Fault}
-use Rattle.bus_load.specs.InTime.{with_faults, AddsNone, FramesStartAsPlanned}
+use Rattle.bus_load.specs.InTime.{with_faults, AddsNone}
 use Rattle.bus_load.specs.Lines.{load_text}
 use Rattle.bus_load.specs.Load.{verdict}
 use Rattle.bus_load.specs.declared.reckoned.Verdict.TheVariants.{Long, Short}
-use Rattle.bus_model.specs.WorldLog.{world_log}
+use Rattle.bus_model.specs.Log.{run_log}
 use Rattle.bus_outside.specs.Causes.{Rose, GrowsByFront}
 use Rattle.bus_plan.specs.PlanOf.{plan_of_bytes}
-use Rattle.bus_run.specs.Stands.{EndsAfter, FinishedStands}
+use Rattle.bus_run.specs.Stands.{FinishedStands}
 use Rattle.bus_run.specs.declared.finished.FinishedBus.{FinishedBus}
 use Rattle.bus_survey.specs.Lines.{survey_text}
-use Rattle.bus_survey.specs.Surveys.{AreRunsWith, SurveyedBefore}
+use Rattle.bus_survey.specs.Surveys.{logs_of, SurveyedBefore}
 use Rattle.bus_tool.specs.Answers.{WroteDue}
 use Rattle.bus_tool.specs.Due.{limit, input_refusal, words_refused, capture_refusal_line, load_refusal, IsDue, IsSurveyDue, IsLoadDue}
+use Rattle.bus_tool.specs.EndsBench.{EndsBench}
+use Rattle.bus_tool.specs.EndsJudge.{EndsJudge}
 use Rattle.bus_tool.specs.Objects.{AreSame, AfterRun, AfterWant}
-use Rattle.bus_tool.specs.Tables.{IsTablesRun, AreTablesRuns}
+use Rattle.bus_tool.specs.Tables.{IsTablesRun, AreTablesRuns, FramesAreInTime}
 use Rattle.bus_tool.specs.Texts.{plan_run, text_of, status_of}
 use Rattle.bus_tool.specs.declared.words.Command.{Command}
 use Rattle.bus_tool.specs.declared.words.Command.TheVariants as commands
@@ -77,25 +78,23 @@ module _ (left0 left1 held0 held1 : Option (List ℕ)) (source0 source1 sink0 si
 
   -- ---- the commands that run a plan, each with its text
 
-  -- the input was read, its plan was run to its end, and the whole text of that run was written; the answer has the bus, whose stations
-  -- went through every tick of it, the objects are those of that run, and the status is that of its log
+  -- the input was read, its plan was run to the tick in which its run by the message table ends, and the whole text of that run was written; the answer has the
+  -- bus, whose stations went through every tick of it, the objects are those of that run, and the status is that of the table's log
   pub record Ran (text : Text) : Type 0 where
     pub input : List ℕ
     pub read : ReadsInput left0 left1 input
     pub accepted : input_refusal input ≡ None
     pub plan : PlanData
     pub is_plan : plan_of_bytes input ≡ Ok plan
-    pub ticks : ℕ
-    pub ends : EndsAfter (plan_run text plan) 0 ticks
     pub left : FinishedBus
     pub has : bus ≡ Some left
-    pub stands : FinishedStands (plan_run text plan) ticks left
-    pub objects : AfterRun told0 told1 said0 said1 spare0 spare1 text (plan_run text plan) ticks
-    pub status_is : status ≡ status_of (world_log LAG (plan_run text plan) ticks)
-    pub written : Appends held0 held1 (text_of text (plan_run text plan) ticks said1)
-    -- the run is that of the message table: it ends there, its text and status are those of the table's log, and no two stations ever drove one
+    pub stands : FinishedStands (plan_run text plan) left
+    pub objects : AfterRun told0 told1 said0 said1 spare0 spare1 text (plan_run text plan)
+    pub status_is : status ≡ status_of (run_log LAG (plan_run text plan))
+    pub written : Appends held0 held1 (text_of text (plan_run text plan) said1)
+    -- the run is that of the message table: the world is over where it ends and not before, its log is found there, and no two stations ever drove one
     -- channel
-    pub tables : IsTablesRun text (plan_run text plan) ticks said1 status
+    pub tables : IsTablesRun (plan_run text plan)
 
   -- the input was read and is refused, the refusal's line was written, and the objects stay
   pub record WasRefused : Type 0 where
@@ -163,11 +162,9 @@ module _ (left0 left1 held0 held1 : Option (List ℕ)) (source0 source1 sink0 si
     pub accepted : input_refusal input ≡ None
     pub plan : PlanData
     pub is_plan : plan_of_bytes input ≡ Ok plan
-    pub logs : List LogData
-    pub runs : AreRunsWith (without_subsystems plan) plan.faults logs
-    pub written : Appends held0 held1 (survey_text logs)
+    pub written : Appends held0 held1 (survey_text (logs_of (without_subsystems plan) plan.faults))
     -- each of the runs is that of the message table
-    pub tables : AreTablesRuns (without_subsystems plan) plan.faults logs
+    pub tables : AreTablesRuns (without_subsystems plan) plan.faults
 
   -- a front of the bytes that were due was written
   pub record StoppedSurvey : Type 0 where
@@ -213,7 +210,7 @@ module _ (left0 left1 held0 held1 : Option (List ℕ)) (source0 source1 sink0 si
   -- ---- the command that reckons a schedule
 
   -- the input was read, and the whole text of its plan's schedule was written. What the text promises holds: where it says that each frame fits in the long
-  -- reckoning, each starts as planned in the run of the plan by the message table, with whatever faults it is accepted; where it says the short one,
+  -- reckoning, each starts as planned in the run of the plan by the message table, and in its world, with whatever faults it is accepted; where it says the short one,
   -- with whatever faults but those that add words
   pub record Reckoned : Type 0 where
     pub input : List ℕ
@@ -222,9 +219,9 @@ module _ (left0 left1 held0 held1 : Option (List ℕ)) (source0 source1 sink0 si
     pub plan : PlanData
     pub is_plan : plan_of_bytes input ≡ Ok plan
     pub written : Appends held0 held1 (load_text plan)
-    pub long : verdict plan ≡ Long → (faults : List Fault) → IsAccepted (with_faults faults plan) → FramesStartAsPlanned LAG [] (with_faults faults plan)
+    pub long : verdict plan ≡ Long → (faults : List Fault) → IsAccepted (with_faults faults plan) → FramesAreInTime (with_faults faults plan)
     pub short : verdict plan ≡ Short → (faults : List Fault) → IsAccepted (with_faults faults plan) → Each AddsNone faults →
-        FramesStartAsPlanned LAG [] (with_faults faults plan)
+        FramesAreInTime (with_faults faults plan)
 
   -- the input was read and is refused, and the refusal's line was written
   pub record WasRefusedLoad : Type 0 where
@@ -284,3 +281,5 @@ module _ (left0 left1 held0 held1 : Option (List ℕ)) (source0 source1 sink0 si
   Ends (Some commands.Load) = EndsLoad
   Ends (Some commands.Decode) = EndsListing (word_lines LAG) (word_listing LAG)
   Ends (Some commands.Messages) = EndsListing (message_lines LAG) (message_listing LAG)
+  Ends (Some commands.Judge) = EndsJudge left0 left1 held0 held1 source0 source1 sink0 sink1 status bus told0 told1 said0 said1 spare0 spare1
+  Ends (Some (commands.Bench number items)) = EndsBench left0 left1 held0 held1 source0 source1 sink0 sink1 status bus told0 told1 said0 said1 spare0 spare1 number items

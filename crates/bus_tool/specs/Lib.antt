@@ -2,7 +2,9 @@ pub mod Meaning
 pub mod Objects
 pub mod Texts
 pub mod Due
+pub mod EndsJudge
 pub mod Ends
+pub mod EndsBench
 pub mod Answers
 pub mod CaptureWriters
 pub mod Captured

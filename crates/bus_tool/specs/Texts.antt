@@ -4,9 +4,9 @@ use Rattle.bus_capture.specs.Captures.{capture_text}
 use Rattle.bus_formats.specs.Logs.{LogData}
 use Rattle.bus_formats.specs.Plans.{PlanData, without_subsystems}
 use Rattle.bus_line.specs.declared.cutter.TheConstants.{LAG}
-use Rattle.bus_model.specs.Log.{all_went_well}
+use Rattle.bus_law_run.specs.WorldIsRun.{plan_end}
+use Rattle.bus_model.specs.Log.{all_went_well, run_log}
 use Rattle.bus_model.specs.World.{world}
-use Rattle.bus_model.specs.WorldLog.{world_log}
 use Rattle.bus_report.specs.Report.{report_text}
 use Rattle.bus_tool.specs.declared.text.Text.{Text}
 use Rattle.bus_tool.specs.declared.text.Text.TheVariants.{Report, Capture}
@@ -16,10 +16,10 @@ abbrev pub plan_run : Text → PlanData → PlanData
 plan_run Report plan = plan
 plan_run Capture plan = without_subsystems plan
 
--- the text of a run of so many ticks, after which the objects say this
-abbrev pub text_of : Text → PlanData → ℕ → List (List ℕ) → List ℕ
-text_of Report plan ticks said = report_text (world_log LAG plan ticks) plan said
-text_of Capture plan ticks said = capture_text (world LAG plan [] [] [] ticks)
+-- the text of a plan's run, after which the objects say this: the report of the message table's log, or the capture of the ticks up to the table's end
+abbrev pub text_of : Text → PlanData → List (List ℕ) → List ℕ
+text_of Report plan said = report_text (run_log LAG plan) plan said
+text_of Capture plan said = capture_text (world LAG plan [] [] [] (plan_end plan))
 
 -- the status after a run: 0 where the last attempt of each item went well, else 1
 abbrev pub status_of : LogData → ℕ

@@ -1,10 +1,12 @@
 //! The top call: all that the program does, with the cause of each of its answers.
 #![tactic(auto)]
 
+mod bench;
 mod capture;
 mod capture_writer;
 mod ended;
 mod input;
+mod judging;
 mod listing;
 mod load;
 mod outcome;

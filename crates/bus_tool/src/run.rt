@@ -121,9 +121,9 @@ fn write_report<K: Sink>(
     sink: &mut K,
 ) -> Ended
     requires accepted { IsAccepted plan.now }
-    requires ran { (t : ℕ) × FinishedStands plan.now t bus }
-    ensures wrote { (t : ℕ) → FinishedStands plan.now t bus → Wrote (K.held sink.old) (K.held sink.new) (K.faults sink.old) (K.faults sink.new)
-        result.status result.bus (text_of Text.Report plan.now t (map (λ b. said b) subsystems.now.items)) plan.now t }
+    requires ran { FinishedStands plan.now bus }
+    ensures wrote { Wrote (K.held sink.old) (K.held sink.new) (K.faults sink.old) (K.faults sink.new)
+        result.status result.bus (text_of Text.Report plan.now (map (λ b. said b) subsystems.now.items)) plan.now }
     ensures later { K.faults sink.old ≤ K.faults sink.new }
 {
     match report(bus.log(), plan, subsystems, sink) {

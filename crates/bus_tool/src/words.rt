@@ -1,6 +1,8 @@
 //! What the words of the command line mean.
 ghost use Rattle.std.specs.Prelude.{◌≡◌, map, string_bytes};
-ghost use Rattle.bus_tool.specs.Meaning.{meaning, command_named as named};
+ghost use Rattle.bus_tool.specs.Meaning.{meaning, command_named as named, bench_named as named_bench, IsInRange};
+
+use bus_decimal::number_up_to;
 
 /// What the program is asked to do.
 #[derive(Clone, Copy, Debug, PartialEq, Eq)]
@@ -17,20 +19,27 @@ pub enum Command {
     Decode,
     /// Read a capture, and write the listing of its messages.
     Messages,
+    /// Read a capture, and write its breaches of the rules of timing.
+    Judge,
+    /// Read nothing, run the plan with so many messages, 1 to 4,096, that are drawn from a number, 0 to 2,147,483,647, on, and write one line.
+    Bench { number: u32, items: u32 },
 }
 
 /// The command that the words mean, the program's name left out; none where they have no meaning. It takes no memory.
 pub fn command_of(words: &[String]) -> Option<Command>
-    ensures { result ≡ meaning (map string_bytes words.now) }
+    ensures meaning { result ≡ meaning (map string_bytes words.now) }
+    ensures range { IsInRange result }
 {
     match words {
         [word] => command_named(word.as_str()),
+        [word, number, items] => bench_named(word.as_str(), number.as_bytes(), items.as_bytes()),
         _ => None,
     }
 }
 
 fn command_named(word: &str) -> Option<Command>
-    ensures { result ≡ named word.now }
+    ensures meaning { result ≡ named word.now }
+    ensures range { IsInRange result }
 {
     if word == "run" {
         return Some(Command::Run);
@@ -50,5 +59,27 @@ fn command_named(word: &str) -> Option<Command>
     if word == "messages" {
         return Some(Command::Messages);
     }
+    if word == "judge" {
+        return Some(Command::Judge);
+    }
     None
+}
+
+// The benchmark with this number and so many messages, where the word asks for one.
+fn bench_named(word: &str, number: &[u8], items: &[u8]) -> Option<Command>
+    ensures meaning { result ≡ named_bench word.now number.now items.now }
+    ensures range { IsInRange result }
+{
+    if word != "bench" {
+        return None;
+    }
+    let number = number_up_to(2_147_483_647, number)?;
+    let items = number_up_to(4_096, items)?;
+    if items == 0 {
+        return None;
+    }
+    Some(Command::Bench {
+        number: number as u32,
+        items: items as u32,
+    })
 }

@@ -54,7 +54,7 @@ neither false true h = absurd (false≢true h)
 neither false false h = (refl, refl)
 
 -- one transmitter of a channel
-one-of : {A : Type 0} (xs : List A) → 0 < length xs → A
+pub one-of : {A : Type 0} (xs : List A) → 0 < length xs → A
 one-of [] h = absurd (omega arith)
 one-of (x ∷ xs) h = x
 

@@ -10,3 +10,4 @@ pub mod OnLaws
 pub mod IdleLaws
 pub mod StationLaws
 pub mod WireLaws
+pub mod PlaceLaws

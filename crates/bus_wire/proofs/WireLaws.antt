@@ -73,7 +73,7 @@ follows-start faults driven drives wire s = record {
   };
 }
 
-drop-next : {A : Type 0} (xs : List A) (i : ℕ) (x : A) → slice_get xs i ≡ Some x → drop i xs ≡ x ∷ drop (suc i) xs
+pub drop-next : {A : Type 0} (xs : List A) (i : ℕ) (x : A) → slice_get xs i ≡ Some x → drop i xs ≡ x ∷ drop (suc i) xs
 drop-next [] i x e = (let no : None ≡ Some x = e in cc)
 drop-next (y ∷ ys) zero x e = ap (λ z. z ∷ ys) (same_Some y x e)
 drop-next (y ∷ ys) (suc i) x e = drop-next ys i x e

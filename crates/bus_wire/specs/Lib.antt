@@ -3,3 +3,4 @@ pub mod Steps
 pub mod Stands
 pub mod Sides
 pub mod WireStands
+pub mod Places

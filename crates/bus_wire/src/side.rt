@@ -1,9 +1,10 @@
 //! One channel with the transmitters of all stations.
-ghost use Rattle.std.specs.Prelude.{◌≡◌, ◌<◌, ◌≤◌, ◌^◌, not, ◌&&◌, List, ◌∷◌, length};
+ghost use Rattle.std.specs.Prelude.{◌≡◌, ◌<◌, ◌≤◌, ◌^◌, not, ◌&&◌, false, List, ◌∷◌, length};
 ghost use Rattle.bus_base.specs.Samples.{other_of};
 ghost use Rattle.bus_base.specs.declared.samples.Drive.{Drive};
 ghost use Rattle.bus_model.specs.Wire.{samples_on};
 ghost use Rattle.bus_wire.specs.Newest.{newest, by_any, since};
+ghost use Rattle.bus_wire.specs.Places.{AreRising, AreSilentBeside};
 ghost use Rattle.bus_wire.specs.Steps.{may_add};
 ghost use Rattle.bus_wire.specs.Sides.{SideFits, SideFollows, SideStands, IsUnsent, Shows, with_shown};
 
@@ -118,6 +119,61 @@ impl Side {
         for (station, drive) in drives.iter().enumerate() {
             let sample = sample_on(channel, *drive);
             on = on.with(self.transmitters[station].shown(faults, tick, other, adds, sample));
+        }
+        on
+    }
+
+    /// What `shown` answers, where only the stations at these places may drive.
+    pub fn shown_among(
+        &self,
+        channel: Channel,
+        faults: &[Fault],
+        tick: u64,
+        other: Option<u64>,
+        drives: &[Drive],
+        places: &[u8],
+    ) -> OnChannel
+        requires few { length drives.now ≤ 32 }
+        requires rising { AreRising 0 (length drives.now) places.now }
+        requires silent { AreSilentBeside 0 places.now drives.now }
+        requires stands { (before : List (List Drive)) × SideStands faults.now channel self.now (drives.now ∷ before)
+            × (tick ≡ length before) × (other ≡ newest (by_any (other_of channel)) (drives.now ∷ before)) }
+        ensures { (before : List (List Drive)) → SideStands faults.now channel self.now (drives.now ∷ before) → tick ≡ length before →
+            other ≡ newest (by_any (other_of channel)) (drives.now ∷ before) → Shows (samples_on faults.now channel (drives.now ∷ before)) result }
+    {
+        if self.may_add(tick) {
+            return self.shown(channel, faults, tick, other, drives);
+        }
+        self.driven_among(channel, faults, tick, other, drives, places)
+    }
+
+    // What the stations at these places drive, where they alone may drive and no extra may add to the channel.
+    fn driven_among(
+        &self,
+        channel: Channel,
+        faults: &[Fault],
+        tick: u64,
+        other: Option<u64>,
+        drives: &[Drive],
+        places: &[u8],
+    ) -> OnChannel
+        requires few { length drives.now ≤ 32 }
+        requires rising { AreRising 0 (length drives.now) places.now }
+        requires silent { AreSilentBeside 0 places.now drives.now }
+        requires ended { may_add tick self.now.extra ≡ false }
+        requires stands { (before : List (List Drive)) × SideStands faults.now channel self.now (drives.now ∷ before)
+            × (tick ≡ length before) × (other ≡ newest (by_any (other_of channel)) (drives.now ∷ before)) }
+        ensures { (before : List (List Drive)) → SideStands faults.now channel self.now (drives.now ∷ before) → tick ≡ length before →
+            other ≡ newest (by_any (other_of channel)) (drives.now ∷ before) → Shows (samples_on faults.now channel (drives.now ∷ before)) result }
+    {
+        let mut on = OnChannel {
+            sample: Sample::Quiet,
+            drivers: 0,
+        };
+        for place in places {
+            let station = usize::from(*place);
+            let sample = sample_on(channel, drives[station]);
+            on = on.with(self.transmitters[station].shown(faults, tick, other, false, sample));
         }
         on
     }

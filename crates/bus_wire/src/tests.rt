@@ -247,3 +247,22 @@ fn the_first_of_two_stations_is_shown(rt: HostRuntime) {
         );
     }
 }
+
+// Of three stations the second alone may drive, and then none.
+#[test]
+fn stations_at_named_places(rt: HostRuntime) {
+    let mut wire = Wire::new(Vec::new(rt.alloc()));
+    let drives = [
+        Drive::Silent,
+        Drive::On {
+            channel: Channel::A,
+            sample: Sample::Plus,
+            part: Part::Command,
+            last: false,
+        },
+        Drive::Silent,
+    ];
+    assert_eq!(rt; wire.show_among(&drives, &[1]), on_a(Sample::Plus, 1));
+    let silent = [Drive::Silent; 3];
+    assert_eq!(rt; wire.show_among(&silent, &[]), on_a(Sample::Quiet, 0));
+}

@@ -4,6 +4,7 @@ ghost use Rattle.bus_base.specs.declared.samples.Channel.TheVariants.{A, B};
 ghost use Rattle.bus_base.specs.declared.samples.Drive.{Drive};
 ghost use Rattle.bus_formats.specs.declared.fault.Fault.{Fault};
 ghost use Rattle.bus_model.specs.Wire as spec;
+ghost use Rattle.bus_wire.specs.Places.{AreRising, AreSilentBeside};
 ghost use Rattle.bus_wire.specs.Sides.{Shows};
 ghost use Rattle.bus_wire.specs.WireStands.{WireStands, FollowsTo};
 
@@ -68,6 +69,68 @@ impl Wire {
                 b: b.sample,
             },
             drivers: [a.drivers, b.drivers],
+        }
+    }
+
+    /// Shows what `show` shows, where only the stations at these places may drive: every other drive is silent. The places rise. What it costs depends on
+    /// them alone, but where an extra may add to a channel.
+    pub fn show_among(&mut self, drives: &[Drive], places: &[u8]) -> Shown
+        requires few { length drives.now ≤ 32 }
+        requires rising { AreRising 0 (length drives.now) places.now }
+        requires silent { AreSilentBeside 0 places.now drives.now }
+        requires stands { (faults : List Fault) × (driven : List (List Drive)) × WireStands faults self.old driven × (length driven < 2 ^ 60) }
+        ensures stands { (faults : List Fault) (driven : List (List Drive)) → WireStands faults self.old driven →
+            WireStands faults self.new (drives.now ∷ driven) }
+        ensures pair { (faults : List Fault) (driven : List (List Drive)) → WireStands faults self.old driven →
+            result.pair ≡ spec.shown faults (drives.now ∷ driven) }
+        ensures drivers { (faults : List Fault) (driven : List (List Drive)) → WireStands faults self.old driven →
+            result.drivers ≡ spec.drivers faults A (drives.now ∷ driven) ∷ spec.drivers faults B (drives.now ∷ driven) ∷ [] }
+    {
+        self.follow_among(drives, places);
+        let a = self.on_among(Channel::A, drives, places);
+        let b = self.on_among(Channel::B, drives, places);
+        Shown {
+            pair: Pair {
+                a: a.sample,
+                b: b.sample,
+            },
+            drivers: [a.drivers, b.drivers],
+        }
+    }
+
+    // Keeps what the stations at these places drive in the tick to come.
+    fn follow_among(&mut self, drives: &[Drive], places: &[u8])
+        requires few { length drives.now ≤ 32 }
+        requires rising { AreRising 0 (length drives.now) places.now }
+        requires silent { AreSilentBeside 0 places.now drives.now }
+        requires stands { (faults : List Fault) × (driven : List (List Drive)) × WireStands faults self.old driven × (length driven < 2 ^ 60) }
+        ensures { (faults : List Fault) (driven : List (List Drive)) → WireStands faults self.old driven →
+            WireStands faults self.new (drives.now ∷ driven) }
+    {
+        for place in places {
+            let station = usize::from(*place);
+            self.follow_station(station, drives[station]);
+        }
+        self.next += 1;
+    }
+
+    // What a channel shows in the newest tick, in which the stations at these places alone may drive.
+    fn on_among(&self, channel: Channel, drives: &[Drive], places: &[u8]) -> OnChannel
+        requires few { length drives.now ≤ 32 }
+        requires rising { AreRising 0 (length drives.now) places.now }
+        requires silent { AreSilentBeside 0 places.now drives.now }
+        requires stands { (faults : List Fault) × (driven : List (List Drive)) × WireStands faults self.now (drives.now ∷ driven) }
+        ensures { (faults : List Fault) (driven : List (List Drive)) → WireStands faults self.now (drives.now ∷ driven) →
+            Shows (spec.samples_on faults channel (drives.now ∷ driven)) result }
+    {
+        let tick = self.next - 1;
+        match channel {
+            Channel::A => {
+                self.a.shown_among(channel, &self.faults, tick, self.b.driven(), drives, places)
+            }
+            Channel::B => {
+                self.b.shown_among(channel, &self.faults, tick, self.a.driven(), drives, places)
+            }
         }
     }
 

@@ -3,7 +3,7 @@ use Rattle.bus_law_readback.proofs.readback.a_capture_of_a_run_is_decoded_to_its
 
 pub returns : goal.returns
 returns _ = record {
-  fits = λ plan ticks said accepted ends. capture-short plan ticks accepted ends said;
-  read = λ plan ticks said accepted ends. capture-read plan ticks accepted ends said;
-  words = λ plan ticks said accepted ends. capture-words plan ticks accepted ends said;
+  fits = λ plan said accepted. capture-short plan accepted said;
+  read = λ plan said accepted. capture-read plan accepted said;
+  words = λ plan said accepted. capture-words plan accepted said;
 }

@@ -1,4 +1,4 @@
 use Rattle.bus_monitor.proofs.list.list.Goals as goal
 
-pub read_all-requires-clause-nothing : goal.read_all-requires-clause-nothing
-read_all-requires-clause-nothing g c = c.new-writer.ensures (g.K.Sink.held c.args.sink.now)
+pub returns-clause-listed : goal.returns-clause-listed
+returns-clause-listed g c = c.list_by-listing.ensures.listed.listed

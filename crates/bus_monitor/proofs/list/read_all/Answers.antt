@@ -46,7 +46,7 @@ returns-in-Err-clause-listed g c =
     let whole : length c.pieces.piece ≡ 4096 = omega (arith, c.pieces.auto.piece, c.requires.piece) in
     let room : length (take c.min-room.result c.pieces.piece) ≤ c.pieces.left =
     (room-some c.pieces.piece c.pieces.left c.min-room.result whole (left-some inv.0 c.pieces.left inv.2 inv.3.holds.going) c.min-room.ensures).1 in
-    piece-last g.L.Lister.stands g.L.Lister.lines g.L.Lister.whole (g.K.Sink.held c.args.sink.now) (g.K.Sink.held c.read_piece.new.sink)
+    piece-last g.L.Lister.stands g.L.Lister.lines g.L.Lister.whole (g.K.Sink.held c.args.sink.now) (g.K.Sink.held c.read_piece.new.sink) c.read_piece.new.self
     (g.S.Source.left c.args.source.now) (g.S.Source.left c.pieces.source) (g.S.Source.left c.read_piece.new.source) inv.0 c.pieces.left
     (length (take c.min-room.result c.pieces.piece)) c.in-Err.listing inv.1 inv.2 room
     (c.in-Err.ensures.read (reverse inv.0) (g.K.Sink.held c.args.sink.now) inv.3)

@@ -17,8 +17,8 @@ pub ticks-preserved : goal.ticks-preserved
 ticks-preserved g c = record {
   captures = λ plan before st serves.
       let so = c.ticks.invariant.captures plan before st serves in
-      let ran = tick-ran plan so.ticks _ _ _ _ c.in-Some.is (c.tick.ensures.ended plan so.ticks so.stands) (c.tick.ensures.shown plan so.ticks so.stands) in
-      goes-on-capture plan _ _ _ _ _ _ _ before _ _ _ _ _ so ran.0 ran.2 (c.tick.ensures.serves plan so.ticks before so.stands ran.0 so.serves)
+      let ran = tick-ran plan so.ticks _ _ _ so.stands (c.tick.ensures.ended plan so.ticks so.stands) (c.tick.ensures.shown plan so.ticks so.stands) _ c.in-Some.is in
+      goes-on-capture plan _ _ _ _ _ _ _ before _ _ _ _ _ so ran.2 (c.tick.ensures.serves plan so.ticks before so.stands ran.0 so.serves)
       (took-next plan so.ticks _ _ _ _ _ so.text ran.1 (c.in_ok-take.ensures.took _ so.text so.lines));
   later = (let earlier = c.ticks.invariant.later in let after = c.take.ensures.cause.later in omega (arith, earlier, after));
 }
@@ -26,7 +26,7 @@ ticks-preserved g c = record {
 pub returns-in_err-take-clause-captured : goal.returns-in_err-take-clause-captured
 returns-in_err-take-clause-captured g c plan before st serves =
     let so = c.ticks.invariant.captures plan before st serves in
-    let ran = tick-ran plan so.ticks _ _ _ _ c.in-Some.is (c.tick.ensures.ended plan so.ticks so.stands) (c.tick.ensures.shown plan so.ticks so.stands) in
+    let ran = tick-ran plan so.ticks _ _ _ so.stands (c.tick.ensures.ended plan so.ticks so.stands) (c.tick.ensures.shown plan so.ticks so.stands) _ c.in-Some.is in
     fails-taking plan _ _ _ _ _ _ before _ _ _ c.from_residual-in_err-take.result so c.from_residual-in_err-take.ensures.0 ran.0
     (took-next plan so.ticks _ _ _ _ _ so.text ran.1 (c.in_err-take.ensures.took _ so.text so.lines))
 
@@ -34,16 +34,16 @@ pub returns-in_err-end-clause-captured : goal.returns-in_err-end-clause-captured
 returns-in_err-end-clause-captured g c plan before st serves =
     let so = c.ticks.invariant.captures plan before st serves in
     let (here, same, still) =
-    tick-ended plan so.ticks _ _ _ c.in_default.is (c.tick.ensures.ended plan so.ticks so.stands) (c.tick.ensures.shown plan so.ticks so.stands) in
+    tick-ended plan so.ticks _ _ _ so.stands (c.tick.ensures.ended plan so.ticks so.stands) (c.tick.ensures.shown plan so.ticks so.stands) c.in_default.is in
     fails-ending plan _ _ _ _ _ before _ _ c.from_residual-in_err-end.result so c.from_residual-in_err-end.ensures.0 here c.in_err-end.ensures.wrote
 
 pub returns-clause-captured : goal.returns-clause-captured
 returns-clause-captured g c plan before st serves =
     let so = c.ticks.invariant.captures plan before st serves in
     let (here, same, still) =
-    tick-ended plan so.ticks _ _ _ c.in_default.is (c.tick.ensures.ended plan so.ticks so.stands) (c.tick.ensures.shown plan so.ticks so.stands) in
+    tick-ended plan so.ticks _ _ _ so.stands (c.tick.ensures.ended plan so.ticks so.stands) (c.tick.ensures.shown plan so.ticks so.stands) c.in_default.is in
     let end = c.finish.ensures plan so.ticks before (rw same so.stands) (serves-still _ _ plan before _ _ _ still so.serves) in
-    ends-whole plan _ _ _ _ _ before _ _ _ so here c.in_ok-end.ensures.wrote end.0 end.1 end.2
+    ends-whole plan _ _ _ _ _ before _ _ _ so here c.in_ok-end.ensures.wrote end.0
 
 pub tick-requires : goal.tick-requires
 tick-requires g c =
@@ -56,7 +56,7 @@ finish-requires g c =
     let (plan, before, st, serves) = c.requires in
     let so = c.ticks.invariant.captures plan before st serves in
     let (here, same, still) =
-    tick-ended plan so.ticks _ _ _ c.in_default.is (c.tick.ensures.ended plan so.ticks so.stands) (c.tick.ensures.shown plan so.ticks so.stands) in
+    tick-ended plan so.ticks _ _ _ so.stands (c.tick.ensures.ended plan so.ticks so.stands) (c.tick.ensures.shown plan so.ticks so.stands) c.in_default.is in
     (plan, so.ticks, before, rw same so.stands, serves-still _ _ plan before _ _ _ still so.serves)
 
 pub take-requires : goal.take-requires

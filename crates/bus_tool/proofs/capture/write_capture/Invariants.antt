@@ -19,6 +19,6 @@ invariant-ticks g l = record {
   later : g.K.Sink.faults l.fn.sink ≤ g.K.Sink.faults l.sink;
 }
 
--- each turn is one tick of the run, whose number is bounded
+-- each turn is one tick of the run, whose number has 32 bits
 abbrev pub decreases-ticks : goal.decreases-ticks
-decreases-ticks g l = l.bus.most_ticks - l.bus.ticks
+decreases-ticks g l = 4294967295 - l.bus.ticks

@@ -1,4 +1,4 @@
-use Rattle.bus_survey.proofs.Beginning.{no-place}
+use Rattle.bus_run.proofs.Beginning.{no-place}
 use Rattle.bus_tool.proofs.run.capture_run.Goals as goal
 
 pub prepare-requires-clause-places : goal.prepare-requires-clause-places

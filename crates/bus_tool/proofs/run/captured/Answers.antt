@@ -8,14 +8,12 @@ returns-in-Ok g c plan before told said spare st serves =
     record {
       later = c.write_capture.ensures.cause.later;
       answer = inl (
-        run.ticks,
-        run.ends,
         record { told = refl; said = refl; spare = refl },
         inl record {
           left = c.in-Ok.left;
           has = refl;
           stands = run.wrote.0;
-          status_is = c.status_of-status.ensures ∙ ap status_of (c.log.ensures plan run.ticks run.wrote.0);
+          status_is = c.status_of-status.ensures ∙ ap status_of (c.log.ensures.tables plan run.wrote.0);
           written = run.wrote.1;
         },
       );
@@ -27,8 +25,6 @@ returns-in-Err g c plan before told said spare st serves =
     record {
       later = c.write_capture.ensures.cause.later;
       answer = inl (
-        run.ticks,
-        run.ends,
         record { told = refl; said = refl; spare = refl },
         inr record { status_is = refl; no_bus = refl; failed = c.in-Err.ensures.cause.failed; front = run.wrote },
       );

@@ -1,7 +1,7 @@
-use Rattle.std.proofs.Common.{◌∷◌, ◌≤◌, length, arith, sym}
+use Rattle.std.proofs.Common.{◌∷◌, ◌≤◌, length, arith, sym, subst}
 use Rattle.std.specs.Prelude.{Some}
 use Rattle.bus_capture.specs.Readings.{ticks_in, text_limit}
-use Rattle.bus_monitor.proofs.WriterLaws.{few-ticks, ticks-ok, takes-none, takes-refused}
+use Rattle.bus_monitor.proofs.WriterLaws.{few-ticks, ticks-ok, ticks-err, takes-none, takes-refused}
 use Rattle.bus_monitor.proofs.TickLaws.{listed-takes}
 use Rattle.bus_monitor.proofs.listing_writer.ListingWriter.take.Goals as goal
 
@@ -28,5 +28,8 @@ returns-in-Ok-Some-clause-took g c bytes first f =
 
 pub returns-in-Err-clause-took : goal.returns-in-Err-clause-took
 returns-in-Err-clause-took g c bytes first f =
-    let answer = sym (c.in-Err.ensures.answer bytes f.holds.reader) in
-    (answer, takes-refused g.L.Lister.stands g.L.Lister.lines first (g.K.Sink.held c.args.sink.now) c.args.self.now.text c.args.byte bytes c.in-Err.refusal f.holds.written answer)
+    let answer = sym (c.in-Err.ensures.answer bytes f.holds.reader) in (
+      answer,
+      takes-refused g.L.Lister.stands g.L.Lister.lines first (g.K.Sink.held c.args.sink.now) c.args.self.now.text c.args.byte bytes c.in-Err.refusal f.holds.written answer,
+      subst (λ ps. g.L.Lister.stands c.args.self.now.lister ps) (sym (ticks-err c.args.byte bytes c.in-Err.refusal answer)) f.holds.lister,
+    )

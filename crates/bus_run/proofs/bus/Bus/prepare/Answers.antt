@@ -29,6 +29,8 @@ returns-clause-bus g c =
     let most = c.most_attempts-most_attempts.ensures.value in
     let none = sym (world-none c.args.plan.now) in
     record {
+      accepted = c.requires.accepted;
+      within = omega arith;
       row = subst (λ past. RowStands (most_attempts c.args.plan.now) c.args.plan.now c.in_ok-row.row past) none
           (subst (λ n. RowStands n c.args.plan.now c.in_ok-row.row []) most c.in_ok-row.ensures);
       wire = subst (λ driven. DrivenWireStands c.args.plan.now c.in_ok-wire.wire driven) (sym (driven-none c.args.plan.now)) c.in_ok-wire.ensures;
@@ -36,8 +38,6 @@ returns-clause-bus g c =
           (subst (λ (n : ℕ). MonitorStands (120 * n) (3 * n) c.in_ok-monitor.monitor []) most c.in_ok-monitor.ensures);
       ends = c.in_ok-ends.ensures;
       ticks_are = refl;
-      most_ticks_are = c.most_ticks.ensures;
-      most_attempts_are = most;
     }
 
 pub returns-clause-told : goal.returns-clause-told

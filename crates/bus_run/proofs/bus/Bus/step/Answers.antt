@@ -9,14 +9,15 @@ use Rattle.bus_run.specs.StationRows.{RowStands}
 use Rattle.bus_run.specs.Monitors.{MonitorStands}
 use Rattle.bus_run.specs.Stands.{BusStands}
 use Rattle.bus_run.proofs.DeliveryLaws.{serves-moved}
-use Rattle.bus_run.proofs.BusLaws.{world-next, driven-next, world-length, driven-length, goes-on}
+use Rattle.bus_run.proofs.BusLaws.{world-next, driven-next, world-length, driven-length}
+use Rattle.bus_run.proofs.TableRun.{goes-on}
 use Rattle.bus_run.proofs.bus.Bus.step.Goals as goal
 
 pub show-shown-requires : goal.show-shown-requires
 unfolding BusStands
 show-shown-requires g c =
     let (plan, t, before, st, on, serves) = c.requires in
-    let small = (goes-on plan t on).small in
+    let small = (goes-on plan st.accepted t st.within).small in
     let ticks = driven-length plan t in (
       plan,
       world LAG plan [] [] [] t,
@@ -30,7 +31,7 @@ pub hear-requires : goal.hear-requires
 unfolding BusStands
 hear-requires g c =
     let (plan, t, before, st, on, serves) = c.requires in
-    let going = goes-on plan t on in
+    let going = goes-on plan st.accepted t st.within in
     let small = going.small in
     let ticks = st.ticks_are in
     let left = going.attempts_left in
@@ -51,7 +52,7 @@ pub hear-requires-2 : goal.hear-requires-2
 unfolding BusStands
 hear-requires-2 g c =
     let (plan, t, before, st, on, serves) = c.requires in
-    let going = goes-on plan t on in
+    let going = goes-on plan st.accepted t st.within in
     let small = going.small in
     let ticks = st.ticks_are in
     let words = going.words_left in
@@ -72,7 +73,7 @@ pub overflow_add-self : goal.overflow_add-self
 unfolding BusStands
 overflow_add-self g c =
     let (plan, t, before, st, on, serves) = c.requires in
-    let small = (goes-on plan t on).small in
+    let small = (goes-on plan st.accepted t st.within).small in
     let ticks = st.ticks_are in
     omega (arith, small, ticks)
 
@@ -95,6 +96,8 @@ returns-clause-stands g c plan t st on =
     (driven-next plan t)))
     ∙ sym (world-next plan t) in
     record {
+      accepted = st.accepted;
+      within = omega (arith, on);
       row = subst (λ p. RowStands (most_attempts plan) plan c.hear.new.self p) next (c.hear.ensures.stands (most_attempts plan) plan past st.row here);
       wire = subst (λ ds. DrivenWireStands plan c.show-shown.new.self ds) (sym (driven-next plan t))
           (c.show-shown.ensures.stands plan past (trace LAG plan [] [] [] t).driven stations st.wire);
@@ -102,8 +105,6 @@ returns-clause-stands g c plan t st on =
           (c.hear-2.ensures (most_words plan) (most_bursts plan) past st.monitor here);
       ends = st.ends;
       ticks_are = add-one c.args.self.now.ticks ∙ ap suc st.ticks_are;
-      most_ticks_are = st.most_ticks_are;
-      most_attempts_are = st.most_attempts_are;
     }
 
 pub returns-clause-serves : goal.returns-clause-serves

@@ -9,12 +9,12 @@ pub returns-then-is_yielded : goal.returns-then-is_yielded
 unfolding StationKeeps
 returns-then-is_yielded c = λ plan starts loads outside past st.
     let off : (before LAG plan starts loads outside past).holds ≡ false = serves _ _
-    (c.is_yielded.ensures plan starts _ past st.controller) c.if-is_yielded.true in
+    (c.is_yielded.ensures.holds plan starts _ past st.controller) c.if-is_yielded.true in
     c.if-is_yielded.true ∙ sym (rw off refl)
 
 pub returns-else-is_yielded : goal.returns-else-is_yielded
 unfolding StationKeeps
 returns-else-is_yielded c = λ plan starts loads outside past st.
     let on : (before LAG plan starts loads outside past).holds ≡ true = controls _ _
-    (c.is_yielded.ensures plan starts _ past st.controller) c.if-is_yielded.false in
+    (c.is_yielded.ensures.holds plan starts _ past st.controller) c.if-is_yielded.false in
     c.is_idle.ensures plan starts _ past st.controller ∙ sym (rw on refl)

@@ -1,0 +1,5 @@
+pub mod Stations
+pub mod MessageRanges
+pub mod Accepted
+pub mod Drawn
+pub mod Places

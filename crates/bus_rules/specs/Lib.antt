@@ -1,0 +1,5 @@
+pub mod Breaches
+pub mod JudgeTexts
+pub mod Stands
+pub mod Judged
+pub mod Named

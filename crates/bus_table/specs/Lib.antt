@@ -1,0 +1,11 @@
+pub mod Flaws
+pub mod Exchanges
+pub mod Notes
+pub mod Rows
+pub mod Fields
+pub mod Texts
+pub mod Tables
+pub mod Stands
+pub mod Lines
+pub mod Meaning
+pub mod Ends

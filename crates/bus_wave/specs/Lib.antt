@@ -1,0 +1,10 @@
+pub mod Marks
+pub mod Texts
+pub mod Told
+pub mod Waves
+pub mod Delays
+pub mod Steps
+pub mod Drawers
+pub mod Written
+pub mod Tool
+pub mod ReadBack

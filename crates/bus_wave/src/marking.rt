@@ -1,0 +1,505 @@
+//! What each tick of a channel tells of its wave.
+ghost use Rattle.std.specs.Prelude.{◌≡◌, ◌+◌, ◌-◌, ◌*◌, ◌<◌, ◌^◌, ◌∷◌, [], ℕ, List, length, take, true, false, is_some, option_to_list, IfSome, Option, None, Some, flat_map};
+ghost use Rattle.bus_base.specs.declared.samples.Sample.{Sample};
+ghost use Rattle.bus_words.specs.declared.word.Word.{Word};
+ghost use Rattle.bus_formats.specs.Accepted.{HasKindRanges};
+ghost use Rattle.bus_formats.specs.Forms.{answers_of, second_command as second_of};
+ghost use Rattle.bus_line.specs.Past.{heard_or_now, runs, stopped};
+ghost use Rattle.bus_line.specs.declared.cutter.TheConstants.{LAG};
+ghost use Rattle.bus_monitor.specs.Awaited.{kept_in_time, open_of};
+ghost use Rattle.bus_monitor.specs.Channels.{ChannelListerStands};
+ghost use Rattle.bus_monitor.specs.Messages.{message_of as message_in};
+ghost use Rattle.bus_monitor.specs.Progress.{closed_in_time};
+ghost use Rattle.bus_monitor.specs.Steps.{kept_with, burst_next, waits_in, is_over as is_over_with};
+ghost use Rattle.bus_wave.specs.Told as spec;
+ghost use Rattle.bus_wave.specs.Told.{
+  told_at,
+  told_closed,
+  told_begin,
+  told_stop,
+  told_opening,
+  told_now,
+  told_last,
+  told_open,
+  told_running_to,
+  told_rest,
+  told_second,
+  told_waiting,
+  gap_told,
+  terminal_of,
+  due,
+  open_to,
+};
+ghost use Rattle.bus_wave.specs.Steps.{told_nothing, told_index, told_next, told_sender_of};
+ghost use Rattle.bus_wave.specs.Delays.{Marked};
+
+use crate::delay_line::DelayLine;
+use crate::marks::{Commands, Mark, MessageMark, SenderMark, WordMark};
+use bus_base::{Channel, Part, Sample};
+use bus_formats::{Kind, Outcome, answers, first_command, second_command};
+use bus_line::{Cut, LAG};
+use bus_monitor::{ChannelLister, Closed, Waiting, message_of};
+use bus_words::{Sync, Word};
+
+/// Marks what one channel shows.
+#[derive(Drop)]
+pub struct Marker {
+    pub lister: ChannelLister,
+}
+
+impl Marker {
+    /// A marker that heard nothing.
+    pub fn new() -> Marker
+        ensures { ChannelListerStands result.lister [] }
+    {
+        Marker {
+            lister: ChannelLister::new(),
+        }
+    }
+
+    /// Hears what the channel shows in tick `now`, and marks what that tells. Before it both channels were quiet for so many ticks, if any tick wasn't.
+    #[inline(always)]
+    pub fn hear(
+        &mut self,
+        channel: Channel,
+        now: u64,
+        sample: Sample,
+        gap: Option<u64>,
+        line: &mut DelayLine,
+    )
+        requires past { (past : List Sample) × ChannelListerStands self.old.lister past × (length past ≡ now) × (now < 2 ^ 60) }
+        ensures stands { (past : List Sample) → ChannelListerStands self.old.lister past → length past ≡ now →
+            ChannelListerStands self.new.lister (sample ∷ past) }
+        ensures marked { (past : List Sample) → ChannelListerStands self.old.lister past → length past ≡ now →
+            Marked line.old line.new (now + 1) channel (told_now LAG gap sample past) }
+    {
+        match self.lister.cutter.hear(sample) {
+            Cut::Nothing => self.hear_nothing(channel, now, sample, gap, line),
+            Cut::Slot { index, word } => self.hear_slot(channel, now, index, word, line),
+            Cut::Ended { rest, .. } => self.hear_end(channel, now, rest, line),
+        }
+    }
+
+    // Nothing became known of a burst. One runs, or begins in this tick, or the time for an answer runs.
+    #[inline(always)]
+    fn hear_nothing(
+        &mut self,
+        channel: Channel,
+        now: u64,
+        sample: Sample,
+        gap: Option<u64>,
+        line: &mut DelayLine,
+    )
+        requires { now < 2 ^ 60 }
+        ensures marked { Marked line.old line.new (now + 1) channel
+            (told_nothing LAG gap now sample self.old.lister.running self.old.lister.waiting) }
+        ensures keeps { self.new.lister ≡ record self.old.lister {
+          running = heard_or_now sample now self.old.lister.running;
+          waiting = kept_in_time now (is_some (heard_or_now sample now self.old.lister.running)) self.old.lister.waiting;
+        } }
+    {
+        if self.lister.running.is_some() {
+            return;
+        }
+        match sample {
+            Sample::Quiet => self.wait(channel, now, line),
+            Sample::Plus | Sample::Minus => {
+                self.lister.running = Some(now);
+                mark_begin(channel, now, gap, &self.lister.waiting, line);
+            }
+        }
+    }
+
+    // No burst runs. A message that waited for its time closes.
+    #[inline(always)]
+    fn wait(&mut self, channel: Channel, now: u64, line: &mut DelayLine)
+        requires { now < 2 ^ 60 }
+        ensures marked { Marked line.old line.new (now + 1) channel
+            (flat_map (told_closed LAG) (closed_in_time now false self.old.lister.waiting)) }
+        ensures keeps { self.new.lister ≡ record self.old.lister { waiting = kept_in_time now false self.old.lister.waiting } }
+    {
+        if self.lister.is_over(now) {
+            self.close(channel, now, line);
+        }
+    }
+
+    // The time for an answer is over.
+    #[inline(never)]
+    fn close(&mut self, channel: Channel, now: u64, line: &mut DelayLine)
+        requires over { is_over_with now self.old.lister.waiting ≡ true }
+        requires time { now < 2 ^ 60 }
+        ensures marked { Marked line.old line.new (now + 1) channel
+            (flat_map (told_closed LAG) (closed_in_time now false self.old.lister.waiting)) }
+        ensures keeps { self.new.lister ≡ record self.old.lister { waiting = kept_in_time now false self.old.lister.waiting } }
+    {
+        let closed = self.lister.unanswered(now);
+        mark_if_closed(channel, now + 1, &closed, line);
+    }
+
+    // A slot ended.
+    #[inline(never)]
+    fn hear_slot(
+        &mut self,
+        channel: Channel,
+        now: u64,
+        index: u64,
+        word: Option<Word>,
+        line: &mut DelayLine,
+    )
+        requires { now < 2 ^ 60 }
+        ensures marked { (first : ℕ) → self.old.lister.running ≡ Some first → first + 40 * index < 2 ^ 60 →
+            Marked line.old line.new (now + 1) channel (told_index first index word self.old.lister.waiting) }
+        ensures keeps { self.new.lister ≡ record self.old.lister { slots = record { items = kept_with self.old.lister.slots.items word } } }
+    {
+        let first = self.lister.running.unwrap_or(0);
+        let opens = index == 0 && self.lister.waiting.is_none();
+        let tick = first.saturating_add(index.saturating_mul(40));
+        line.mark(channel, now + 1, tick, Mark::Word(slot_mark(opens, word)));
+        self.lister.keep(word);
+    }
+
+    // The burst that ran has ended, with so many ticks after its last whole slot.
+    #[inline(never)]
+    fn hear_end(&mut self, channel: Channel, now: u64, rest: u8, line: &mut DelayLine)
+        requires { now < 2 ^ 60 }
+        ensures marked { (first : ℕ) (whole : List (Option Word)) → self.old.lister.running ≡ Some first → first < 2 ^ 60 →
+            self.old.lister.slots.items ≡ take 34 whole →
+            Marked line.old line.new (now + 1) channel
+            (told_next LAG first (now - LAG) self.old.lister.waiting (message_in whole rest) rest
+            (burst_next self.old.lister.waiting first (now - LAG) now whole rest)) }
+        ensures keeps { (first : ℕ) (whole : List (Option Word)) → self.old.lister.running ≡ Some first → self.old.lister.slots.items ≡ take 34 whole →
+            self.new.lister ≡ record self.old.lister {
+              running = None;
+              slots = record { items = [] };
+              waiting = waits_in (burst_next self.old.lister.waiting first (now - LAG) now whole rest);
+            } }
+    {
+        let end = now.saturating_sub(u64::from(LAG));
+        mark_stop(channel, now + 1, end, rest, line);
+        self.mark_sender(channel, now + 1, rest, line);
+        let closed = self.lister.end_burst(now, rest);
+        mark_if_closed(channel, now + 1, &closed, line);
+        mark_waiting(channel, now + 1, &self.lister.waiting, line);
+    }
+
+    // The burst that ended opens a message, where it answers none.
+    fn mark_sender(&self, channel: Channel, ticks: u64, rest: u8, line: &mut DelayLine)
+        ensures { (first : ℕ) (whole : List (Option Word)) → self.now.lister.running ≡ Some first → first < 2 ^ 60 →
+            self.now.lister.slots.items ≡ take 34 whole →
+            Marked line.old line.new ticks channel (told_sender_of first self.now.lister.waiting (message_in whole rest)) }
+    {
+        match &self.lister.waiting {
+            Some(_) => {}
+            None => self.mark_controller(channel, ticks, rest, line),
+        }
+    }
+
+    // The message that the burst opens is the controller's, where it is of a known form.
+    fn mark_controller(&self, channel: Channel, ticks: u64, rest: u8, line: &mut DelayLine)
+        ensures { (first : ℕ) (whole : List (Option Word)) → self.now.lister.running ≡ Some first → first < 2 ^ 60 →
+            self.now.lister.slots.items ≡ take 34 whole →
+            Marked line.old line.new ticks channel (told_opening first (message_in whole rest)) }
+    {
+        if let Some(first) = self.lister.running {
+            let kind = message_of(self.lister.slots.as_slice(), rest);
+            mark_opening(channel, ticks, first, &kind, line);
+        }
+    }
+
+    /// Marks what the end of the capture tells, after so many ticks.
+    pub fn finish(&self, channel: Channel, ticks: u64, line: &mut DelayLine)
+        requires { ticks < 2 ^ 60 }
+        ensures { (past : List Sample) → ChannelListerStands self.now.lister past → length past ≡ ticks →
+            Marked line.old line.new (ticks + 1) channel (told_last LAG past) }
+    {
+        let stop = self.stop();
+        self.mark_running(channel, ticks + 1, stop, line);
+        self.mark_open(channel, ticks + 1, stop, line);
+    }
+
+    // The tick after the last one that wasn't quiet of the burst that runs.
+    fn stop(&self) -> u64
+        ensures { (past : List Sample) → ChannelListerStands self.now.lister past → length past < 2 ^ 60 → runs LAG past ≡ true →
+            result ≡ stopped past }
+    {
+        let first = self.lister.running.unwrap_or(0);
+        first.saturating_add(self.lister.cutter.burst_ticks())
+    }
+
+    // Marks the burst that runs, up to this tick.
+    fn mark_running(&self, channel: Channel, ticks: u64, stop: u64, line: &mut DelayLine)
+        ensures { Marked line.old line.new ticks channel (told_running_to self.now.lister.running stop) }
+    {
+        if let Some(first) = self.lister.running {
+            mark_stop(
+                channel,
+                ticks,
+                stop,
+                (stop.saturating_sub(first) % 40) as u8,
+                line,
+            );
+        }
+    }
+
+    // Marks the message that is open.
+    fn mark_open(&self, channel: Channel, ticks: u64, stop: u64, line: &mut DelayLine)
+        ensures { Marked line.old line.new ticks channel
+            (told_open stop self.now.lister.running self.now.lister.waiting (open_of self.now.lister.running self.now.lister.waiting)) }
+    {
+        if let Some(first) = self.lister.open() {
+            let mark = open_mark(&self.lister.waiting);
+            let to = self.open_to(stop);
+            mark_name(channel, ticks, first, to, mark, line);
+        }
+    }
+
+    // Where the message that is open is drawn to.
+    fn open_to(&self, stop: u64) -> u64
+        ensures { result ≡ open_to stop self.now.lister.running self.now.lister.waiting }
+    {
+        if self.lister.running.is_some() {
+            return stop;
+        }
+        match &self.lister.waiting {
+            Some(waiting) => waiting.from(),
+            None => stop,
+        }
+    }
+}
+
+// A burst begins in this tick.
+#[inline(never)]
+fn mark_begin(
+    channel: Channel,
+    now: u64,
+    gap: Option<u64>,
+    waiting: &Option<Waiting>,
+    line: &mut DelayLine,
+)
+    requires { now < 2 ^ 60 }
+    ensures { Marked line.old line.new (now + 1) channel (told_begin gap now waiting.now) }
+{
+    match waiting {
+        None => {
+            line.mark(channel, now + 1, now, Mark::Message(MessageMark::Unknown));
+            line.mark(channel, now + 1, now, Mark::Sender(SenderMark::Unknown));
+            mark_gap(channel, now, gap, line);
+        }
+        Some(waiting) => {
+            line.mark(channel, now + 1, now, Mark::Sender(terminal(waiting)));
+            line.mark(
+                channel,
+                now + 1,
+                now,
+                Mark::Gap(now.saturating_sub(waiting.from())),
+            );
+        }
+    }
+}
+
+fn mark_gap(channel: Channel, now: u64, gap: Option<u64>, line: &mut DelayLine)
+    requires { now < 2 ^ 60 }
+    ensures { Marked line.old line.new (now + 1) channel (gap_told now gap) }
+{
+    if let Some(quiet) = gap {
+        line.mark(channel, now + 1, now, Mark::Gap(quiet));
+    }
+}
+
+// The terminal whose answer is awaited.
+fn terminal(waiting: &Waiting) -> SenderMark
+    ensures { result ≡ terminal_of (due waiting.now.part (answers_of waiting.now.kind)) }
+{
+    let answers = answers(waiting.kind());
+    let shape = match waiting.part() {
+        Part::Second => answers.second,
+        Part::Command | Part::First => answers.first,
+    };
+    match shape {
+        Some(shape) => SenderMark::Terminal(shape.address),
+        None => SenderMark::Unknown,
+    }
+}
+
+fn slot_mark(opens: bool, word: Option<Word>) -> WordMark
+    ensures { result ≡ spec.slot_mark opens word }
+{
+    match word {
+        Some(word) => word_mark(opens, word),
+        None => WordMark::Bad,
+    }
+}
+
+fn word_mark(opens: bool, word: Word) -> WordMark
+    ensures { result ≡ spec.sync_mark opens word.sync word.bits }
+{
+    match word.sync {
+        Sync::Datum => WordMark::Datum(word.bits),
+        Sync::Command => {
+            if opens {
+                WordMark::Command(word.bits)
+            } else {
+                WordMark::Other(word.bits)
+            }
+        }
+    }
+}
+
+// A burst ended before this tick, with so many ticks after its last whole slot.
+fn mark_stop(channel: Channel, ticks: u64, end: u64, rest: u8, line: &mut DelayLine)
+    ensures { Marked line.old line.new ticks channel (told_stop end rest) }
+{
+    mark_rest(channel, ticks, end, rest, line);
+    line.mark(channel, ticks, end, Mark::Word(WordMark::Nothing));
+    line.mark(channel, ticks, end, Mark::Sender(SenderMark::Nobody));
+}
+
+fn mark_rest(channel: Channel, ticks: u64, end: u64, rest: u8, line: &mut DelayLine)
+    ensures { Marked line.old line.new ticks channel (told_rest end rest) }
+{
+    if rest != 0 {
+        let tick = end.saturating_sub(u64::from(rest));
+        line.mark(channel, ticks, tick, Mark::Word(WordMark::Bad));
+    }
+}
+
+// A message that a burst opens, if it is of a known form.
+fn mark_opening(channel: Channel, ticks: u64, first: u64, kind: &Option<Kind>, line: &mut DelayLine)
+    requires { IfSome kind.now HasKindRanges }
+    ensures { first < 2 ^ 60 → Marked line.old line.new ticks channel (told_opening first kind.now) }
+{
+    if let Some(kind) = kind {
+        line.mark(channel, ticks, first, Mark::Sender(SenderMark::Controller));
+        mark_second(channel, ticks, first, kind, line);
+    }
+}
+
+fn mark_second(channel: Channel, ticks: u64, first: u64, kind: &Kind, line: &mut DelayLine)
+    requires { HasKindRanges kind.now }
+    ensures { first < 2 ^ 60 → Marked line.old line.new ticks channel (told_second first (second_of kind.now)) }
+{
+    if let Some(second) = second_command(kind) {
+        let tick = first.saturating_add(40);
+        line.mark(
+            channel,
+            ticks,
+            tick,
+            Mark::Word(WordMark::Command(second.bits())),
+        );
+    }
+}
+
+// A message that closed, if one did.
+fn mark_if_closed(channel: Channel, ticks: u64, closed: &Option<Closed>, line: &mut DelayLine)
+    ensures { Marked line.old line.new ticks channel (flat_map (told_closed LAG) (option_to_list closed.now)) }
+{
+    if let Some(closed) = closed {
+        mark_closed(channel, ticks, closed, line);
+    }
+}
+
+fn mark_closed(channel: Channel, ticks: u64, closed: &Closed, line: &mut DelayLine)
+    ensures { Marked line.old line.new ticks channel (told_closed LAG closed.now) }
+{
+    let mark = closed_mark(closed);
+    let to = drawn_to(closed);
+    mark_name(channel, ticks, closed.first, to, mark, line);
+}
+
+// A message has this name from its first tick to before another.
+fn mark_name(
+    channel: Channel,
+    ticks: u64,
+    first: u64,
+    to: u64,
+    mark: MessageMark,
+    line: &mut DelayLine,
+)
+    ensures { Marked line.old line.new ticks channel (told_at first (Mark.Message mark) ∷ told_at to (Mark.Message MessageMark.Nothing) ∷ []) }
+{
+    line.mark(channel, ticks, first, Mark::Message(mark));
+    line.mark(channel, ticks, to, Mark::Message(MessageMark::Nothing));
+}
+
+// A message that waits, if one does.
+fn mark_waiting(channel: Channel, ticks: u64, waiting: &Option<Waiting>, line: &mut DelayLine)
+    ensures { Marked line.old line.new ticks channel (told_waiting waiting.now) }
+{
+    if let Some(waiting) = waiting {
+        line.mark(
+            channel,
+            ticks,
+            waiting.first(),
+            Mark::Message(waiting_mark(waiting)),
+        );
+    }
+}
+
+fn commands_in(kind: &Kind) -> Commands
+    requires { HasKindRanges kind.now }
+    ensures { result ≡ spec.commands_in kind.now }
+{
+    let second = match second_command(kind) {
+        Some(second) => Some(second.bits()),
+        None => None,
+    };
+    Commands {
+        first: first_command(kind).bits(),
+        second,
+    }
+}
+
+fn closed_mark(closed: &Closed) -> MessageMark
+    ensures { result ≡ spec.closed_mark closed.now.came }
+{
+    match &closed.came {
+        Some(ended) => MessageMark::Ended(commands_in(&ended.kind), ended.outcome),
+        None => MessageMark::Unknown,
+    }
+}
+
+fn waiting_mark(waiting: &Waiting) -> MessageMark
+    ensures { result ≡ spec.waiting_mark waiting.now }
+{
+    MessageMark::Ended(
+        commands_in(waiting.kind()),
+        Outcome::BadReply(waiting.part()),
+    )
+}
+
+fn open_mark(waiting: &Option<Waiting>) -> MessageMark
+    ensures { result ≡ spec.open_mark waiting.now }
+{
+    match waiting {
+        Some(waiting) => MessageMark::Open(Some(commands_in(waiting.kind()))),
+        None => MessageMark::Open(None),
+    }
+}
+
+fn drawn_to(closed: &Closed) -> u64
+    ensures { result ≡ spec.drawn_to LAG closed.now }
+{
+    if is_unanswered(closed) {
+        closed.tick
+    } else {
+        closed.tick.saturating_sub(u64::from(LAG))
+    }
+}
+
+fn is_unanswered(closed: &Closed) -> bool
+    ensures { result ≡ spec.is_unanswered closed.now.came }
+{
+    match &closed.came {
+        Some(ended) => is_no_response(ended.outcome),
+        None => false,
+    }
+}
+
+fn is_no_response(outcome: Outcome) -> bool
+    ensures { result ≡ spec.is_no_response outcome }
+{
+    match outcome {
+        Outcome::NoResponse(_) => true,
+        _ => false,
+    }
+}
