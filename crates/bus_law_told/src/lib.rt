@@ -1,16 +1,12 @@
-//! Messages of the world, told whole: each is what the message table says of it, whatever faults strike it. Laws alone, each the contract of an empty
-//! function. Proved at lag 3: a message that began, in whatever moment, isn't abandoned and gives no control away (it offers none, nothing is shown of an
-//! answer to its offer, or the offer is refused), ends in the table's tick with the table's outcome, statuses and words; the blocks taken, the bursts shown
-//! and the stations after it are the table's; each of its ticks is in order; and it ends between two messages. It is made of the phases of bus_law_phases, of what the table's message is by what is shown
-//! of its answers, and of what the station in control does beside an answer. Not proved here: messages that are abandoned, and offers of control that are
-//! accepted or answered badly.
+//! What messages of the world are told by, whatever faults strike them. Laws alone, each the contract of an empty function. Proved at lag 3: what the
+//! table's message is by what is shown of its answers, what the station in control does beside an answer, and what it waits for afterwards. With the phases
+//! of bus_law_phases its lemmas (proofs/Telling) tell each message that began, in whatever moment, isn't abandoned and gives no control away: it offers none,
+//! nothing is shown of an answer to its offer, or the offer is refused. The law on all messages that aren't abandoned stands in bus_law_offers.
 #![tactic(auto)]
 
-pub mod began;
 pub mod holders;
 pub mod tables;
 
-pub use began::{a_message_that_began_is_told, an_offer_that_is_refused_is_told};
 pub use holders::{
     a_message_that_went_badly_leaves_quiet, a_station_in_control_holds_beside_an_answer,
     an_answer_without_an_offer_gives_no_control,
