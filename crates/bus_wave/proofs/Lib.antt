@@ -6,3 +6,4 @@ pub mod DrawLaws
 pub mod WriteLaws
 pub mod ReadLaws
 pub mod ReadBackLaws
+pub mod QuietLaws

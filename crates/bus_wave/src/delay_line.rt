@@ -1,6 +1,7 @@
 //! The columns of the last ticks, until they are drawn.
 ghost use Rattle.std.specs.Prelude.{◌≡◌, ◌+◌, ◌<◌, ◌≤◌, ℕ, [], ◌∷◌};
 ghost use Rattle.bus_wave.specs.Waves.{begun, horizon};
+ghost use Rattle.bus_wave.specs.Marks.{blank};
 ghost use Rattle.bus_wave.specs.Told.{told_at};
 ghost use Rattle.bus_wave.specs.Delays.{LineStands, Marked};
 ghost use Rattle.bus_wave.specs.declared.marks.Column.{Column};
@@ -21,7 +22,8 @@ pub struct DelayLine {
 impl DelayLine {
     /// A line of no ticks.
     pub fn new() -> DelayLine
-        ensures { (known : ℕ → Column) → LineStands result 0 known }
+        ensures none { (known : ℕ → Column) → LineStands result 0 known }
+        ensures quiet { (ticks : ℕ) → LineStands result ticks (λ t. blank) }
     {
         DelayLine {
             columns: [Column::BLANK; 2048],

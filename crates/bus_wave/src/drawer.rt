@@ -1,9 +1,10 @@
 //! The wave tick by tick, 1,536 ticks behind.
-ghost use Rattle.std.specs.Prelude.{◌≡◌, ◌+◌, ◌<◌, ◌≤◌, ◌-◌, ◌^◌, ◌++◌, ◌∷◌, [], ℕ, List, suc, false, length, if◌then◌else◌};
+ghost use Rattle.std.specs.Prelude.{◌≡◌, ◌+◌, ◌<◌, ◌≤◌, ◌-◌, ◌^◌, ◌++◌, ◌∷◌, ◌==◌, ◌&&◌, [], ℕ, List, suc, length, if◌then◌else◌};
 ghost use Rattle.bus_base.specs.declared.samples.Pair.{Pair};
 ghost use Rattle.bus_base.specs.Samples.{is_quiet as quiet};
 ghost use Rattle.bus_line.specs.Channels.{both_quiet as are_quiet};
 ghost use Rattle.bus_line.specs.declared.cutter.TheConstants.{LAG};
+ghost use Rattle.bus_monitor.specs.Channels.{is_idle_on};
 ghost use Rattle.bus_wave.specs.Delays.{LineStands};
 ghost use Rattle.bus_wave.specs.Drawers.{DrawerHears, DrawerStands, DrawerEnds};
 ghost use Rattle.bus_wave.specs.Texts.{changes_text};
@@ -194,13 +195,18 @@ impl Lister for Drawer {
 
     ghost whole = { wave_so_far LAG };
 
-    ghost idle = { λ drawer. false };
+    ghost idle = { λ drawer. (drawer.ticks == 0) && is_idle_on drawer.a.lister && is_idle_on drawer.b.lister };
 
+    // Only before the first tick: later ones may be due.
     fn is_idle(&self) -> bool {
-        false
+        self.ticks == 0 && self.a.lister.is_idle() && self.b.lister.is_idle()
     }
 
-    fn skip(&mut self, ticks: u64) {}
+    fn skip(&mut self, ticks: u64) {
+        self.line = DelayLine::new();
+        self.ticks = ticks;
+        self.quiet = ticks;
+    }
 
     #[inline(always)]
     fn list(&mut self, shown: Pair, text: &mut Page) {
