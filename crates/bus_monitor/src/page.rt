@@ -64,8 +64,8 @@ impl Page {
         ensures text { self.new ≡ self.old ++ word_line heard }
         ensures grows { length self.new ≤ length self.old + 40 }
     {
-        self.text("word");
-        self.number(heard.tick.0);
+        self.text("word ");
+        self.decimal(heard.tick.0);
         self.rest_of_word(
             channel_letter(heard.channel),
             sync_letter(heard.word.sync),

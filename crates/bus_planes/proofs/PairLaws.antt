@@ -1,5 +1,5 @@
 -- The seventeen pairs after the sync, tested and read all at once.
-use Rattle.std.proofs.Common.{◌≡◌, ℕ, zero, suc, ◌+◌, ◌-◌, ◌*◌, ◌/◌, ◌%◌, ◌^◌, ◌<◌, min, Bool, true, false, not, ◌==◌, ◌&&◌, ◌||◌, eqb, ltb, T, if◌then◌else◌, refl, sym, ap, ◌∙◌, arith, inl, inr, ◌⊎◌, eqb→eq, ltb→lt}
+use Rattle.std.proofs.Common.{◌≡◌, ℕ, zero, suc, ◌+◌, ◌-◌, ◌*◌, ◌/◌, ◌%◌, ◌<◌, min, Bool, true, false, not, ◌==◌, ◌&&◌, ◌||◌, eqb, ltb, T, refl, sym, ap, ◌∙◌, arith, inl, inr, ◌⊎◌, eqb→eq, ltb→lt}
 use Rattle.std.specs.Int.{bit_at}
 use Rattle.std.proofs.lemmas.Bool.{cases_eq, cases_lt}
 use Rattle.std.proofs.lemmas.Nat.Bits.{bit_at_and, bit_at_xor, bit_at-suc, bit_at-lt, bit_at_above, same_from_bits}
@@ -7,7 +7,7 @@ use lib.Bits.{bit_and, bit_xor}
 use Rattle.bus_words.specs.declared.word.Word.{Word}
 use Rattle.bus_line.specs.Spelling.{Spells, SpellsBit, is_one, number_of}
 use Rattle.bus_planes.specs.Bits.{ArePairs, shown}
-use Rattle.bus_line.proofs.Numbers.{number_more, number_bit}
+use Rattle.bus_line.proofs.Numbers.{number_bit}
 use Rattle.bus_planes.proofs.Shown.{pair-spells, spells-pair}
 
 -- ---- a test of each of so many numbers
@@ -118,20 +118,6 @@ pairs-spell plus bits pairs e i h =
 
 pub last-spells : (plus : ℕ) → ArePairs plus → SpellsBit (shown plus) 38 (is_one plus 38)
 last-spells plus pairs = pair-spells plus 38 (is_one plus 38) (omega arith) refl (pairs 16 (omega arith))
-
-bit-as : (m : ℕ) → m < 2 → m ≡ (if m == 1 then 1 else 0)
-bit-as zero h = refl
-bit-as (suc zero) h = refl
-bit-as (suc (suc m)) h = absurd (omega (arith, h))
-
--- one bit more
-pub firsts-more : (plus bits place : ℕ) → bits ≡ number_of (λ i. is_one plus (6 + 2 * i)) place →
-    bits * 2 + plus / 2 ^ (6 + 2 * place) % 2 ≡ number_of (λ i. is_one plus (6 + 2 * i)) (place + 1)
-firsts-more plus bits place e =
-    let more : number_of (λ i. is_one plus (6 + 2 * i)) (place + 1) ≡ 2 * number_of (λ i. is_one plus (6 + 2 * i)) place + (if is_one plus (6 + 2 * place) then 1 else 0) =
-    number_more (λ i. is_one plus (6 + 2 * i)) place in
-    let bit : bit_at plus (6 + 2 * place) ≡ (if is_one plus (6 + 2 * place) then 1 else 0) = bit-as (bit_at plus (6 + 2 * place)) (bit_at-lt plus (6 + 2 * place)) in
-    omega (arith, e, more, bit)
 
 -- where a word is spelled all pairs are bits
 pub spelled-pairs : (plus : ℕ) (word : Word) → Spells word (shown plus) → ArePairs plus

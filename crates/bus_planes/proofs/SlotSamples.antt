@@ -1,5 +1,5 @@
 -- The samples of the slot that a sample ends, as a cutter's bits show them. For every lag up to three ticks.
-use Rattle.std.proofs.Common.{◌≡◌, ℕ, suc, ◌+◌, ◌-◌, ◌*◌, ◌/◌, ◌%◌, ◌^◌, ◌<◌, ◌≤◌, Bool, true, false, not, ◌==◌, if◌then◌else◌, List, ◌∷◌, ◌++◌, map, reverse, length, take, drop, get_or, Option, Some, None, refl, sym, ap, ◌∙◌, arith, inl, inr, take-add}
+use Rattle.std.proofs.Common.{◌≡◌, ℕ, ◌+◌, ◌-◌, ◌<◌, ◌≤◌, Bool, false, if◌then◌else◌, List, ◌∷◌, reverse, length, take, drop, get_or, Option, refl, sym, ap, ◌∙◌, arith, inl, inr, take-add}
 use Rattle.std.proofs.lemmas.Bool.{cases_Bool, cases_lt}
 use Rattle.std.proofs.lemmas.List.{reverse-append, length-reverse, length-take, length-drop, get_or_append_left}
 use Rattle.std.proofs.lemmas.List.FromFn.{fill_by_all}
@@ -8,7 +8,7 @@ use Rattle.bus_base.specs.declared.samples.Sample.{Sample}
 use Rattle.bus_base.specs.declared.samples.Sample.TheVariants.{Plus, Minus, Quiet}
 use Rattle.bus_words.specs.declared.word.Word.{Word}
 use Rattle.bus_line.specs.declared.cutter.Cut.TheVariants as cuts
-use Rattle.bus_line.specs.Past.{samples_from, first_tick}
+use Rattle.bus_line.specs.Past.{samples_from}
 use Rattle.bus_line.specs.Cutting.{cut_now, newest_samples}
 use Rattle.bus_line.specs.Spelling.{is_plus, is_one, first_half}
 use Rattle.bus_line.proofs.TickLaws.{quiet-sample}

@@ -16,6 +16,20 @@ const ALL_HEARD: u64 = 0xFF_FFFF_FFFF;
 // The first halves of the pairs after the sync.
 const PAIRS: u64 = 0x55_5555_5540;
 
+// For each eight bits, which are four pairs, the number whose four bits are the first halves, that of the first pair the highest.
+const FIRSTS_OF_FOUR: [u8; 256] = [
+    0, 8, 0, 8, 4, 12, 4, 12, 0, 8, 0, 8, 4, 12, 4, 12, 2, 10, 2, 10, 6, 14, 6, 14, 2, 10, 2, 10,
+    6, 14, 6, 14, 0, 8, 0, 8, 4, 12, 4, 12, 0, 8, 0, 8, 4, 12, 4, 12, 2, 10, 2, 10, 6, 14, 6, 14,
+    2, 10, 2, 10, 6, 14, 6, 14, 1, 9, 1, 9, 5, 13, 5, 13, 1, 9, 1, 9, 5, 13, 5, 13, 3, 11, 3, 11,
+    7, 15, 7, 15, 3, 11, 3, 11, 7, 15, 7, 15, 1, 9, 1, 9, 5, 13, 5, 13, 1, 9, 1, 9, 5, 13, 5, 13,
+    3, 11, 3, 11, 7, 15, 7, 15, 3, 11, 3, 11, 7, 15, 7, 15, 0, 8, 0, 8, 4, 12, 4, 12, 0, 8, 0, 8,
+    4, 12, 4, 12, 2, 10, 2, 10, 6, 14, 6, 14, 2, 10, 2, 10, 6, 14, 6, 14, 0, 8, 0, 8, 4, 12, 4, 12,
+    0, 8, 0, 8, 4, 12, 4, 12, 2, 10, 2, 10, 6, 14, 6, 14, 2, 10, 2, 10, 6, 14, 6, 14, 1, 9, 1, 9,
+    5, 13, 5, 13, 1, 9, 1, 9, 5, 13, 5, 13, 3, 11, 3, 11, 7, 15, 7, 15, 3, 11, 3, 11, 7, 15, 7, 15,
+    1, 9, 1, 9, 5, 13, 5, 13, 1, 9, 1, 9, 5, 13, 5, 13, 3, 11, 3, 11, 7, 15, 7, 15, 3, 11, 3, 11,
+    7, 15, 7, 15,
+];
+
 /// The word that forty samples spell, given as bits from the first sample on: those that weren't quiet, and those that were plus. None where
 /// no word does: a wrong sync, a bit without its middle change of sign, a quiet sample or an even number of ones makes them invalid
 /// (MIL-STD-1553B 4.4.1.1).
@@ -90,9 +104,18 @@ fn are_pairs(plus: u64) -> bool
 fn firsts(plus: u64) -> u16
     ensures { result ≡ number_of (λ i. is_one plus (6 + 2 * i)) 16 }
 {
-    let mut bits = 0u16;
-    for place in 0..16usize {
-        bits = bits * 2 + ((plus >> (6 + 2 * place)) % 2) as u16;
-    }
-    bits
+    four_firsts(plus, 6) * 4096
+        + four_firsts(plus, 14) * 256
+        + four_firsts(plus, 22) * 16
+        + four_firsts(plus, 30)
+}
+
+// The number whose four bits are the first halves of the four pairs from a sample on. It is looked up: the pairs are eight bits.
+#[inline(always)]
+fn four_firsts(plus: u64, place: u32) -> u16
+    requires { place < 64 }
+    ensures few { result < 16 }
+    ensures value { result ≡ number_of (λ i. is_one plus (place + 2 * i)) 4 }
+{
+    FIRSTS_OF_FOUR[((plus >> place) % 256) as usize] as u16
 }

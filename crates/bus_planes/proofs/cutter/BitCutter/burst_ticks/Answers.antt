@@ -1,5 +1,4 @@
-use Rattle.std.proofs.Common.{◌≡◌, ◌≤◌, true, sym, ◌∙◌, arith}
-use Rattle.bus_line.specs.declared.cutter.TheConstants.{LAG}
+use Rattle.std.proofs.Common.{arith}
 use Rattle.bus_planes.specs.Cutting.{BitCutterStands}
 use Rattle.bus_planes.proofs.cutter.BitCutter.burst_ticks.Goals as goal
 
