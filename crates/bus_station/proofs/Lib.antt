@@ -18,3 +18,4 @@ pub mod Listening
 pub mod Closed
 pub mod Own
 pub mod Waits
+pub mod Foreign

@@ -1,15 +1,19 @@
 -- A station with one load more stands for the loads with it.
-use Rattle.std.proofs.Common.{◌≡◌, ℕ, suc, Bool, List, ◌∷◌, length, refl, sym, ap, ◌∙◌, subst, arith, inl, inr}
+use Rattle.std.proofs.Common.{◌≡◌, ℕ, suc, Bool, ◌||◌, if◌then◌else◌, List, ◌∷◌, length, refl, sym, ap, ◌∙◌, subst, arith, inl, inr}
+use Rattle.bus_base.specs.declared.samples.Channel.TheVariants.{A, B}
 use Rattle.bus_base.specs.declared.samples.Pair.{Pair}
+use Rattle.bus_receiver.specs.Cuts.{CuttersStand}
+use Rattle.bus_receiver.specs.declared.cutters.Cutters.{Cutters}
 use Rattle.bus_formats.specs.Plans.{StationData}
 use Rattle.bus_model.specs.Memory.{Memory, TimedLoad, with_loads, load_block}
-use Rattle.bus_model.specs.Hearing.{Moment, Hearing}
+use Rattle.bus_model.specs.Hearing.{Moment, Hearing, heard_on}
 use Rattle.bus_model.specs.Course.{Take, course}
 use Rattle.bus_model.specs.Control.{OutsideTake, StationSoFar}
 use Rattle.bus_terminal.specs.TerminalStands.{TerminalKeeps}
 use Rattle.bus_terminal.specs.declared.terminal.Terminal.{Terminal}
 use Rattle.bus_controller.specs.ControllerStands.{ControllerKeeps}
 use Rattle.bus_controller.specs.declared.controller.Controller.{Controller}
+use Rattle.bus_station.specs.Listening.{cutters_by, InStep}
 use Rattle.bus_station.specs.Roles.{tick_of}
 use Rattle.bus_station.specs.StationStands.{Stands, StationKeeps, taking_of}
 use Rattle.bus_station.specs.declared.station.Station.{Station}
@@ -84,3 +88,26 @@ loaded-hears k station starts loads outside x past sub words =
       | inl same ↦ ap (λ (h : Hearing). h.ticks) same
       | inr (rests, now) ↦ ap (λ (h : Hearing). h.ticks) now ∙ sym rests
     ]
+
+-- a load leaves it in step with the cutters of a bus
+pub loaded-step : (k : ℕ) (station : StationData) (starts : Bool) (loads : List TimedLoad) (outside : List OutsideTake) (old new : Station) (bus : Cutters)
+    (x : Pair) (past : List Pair) (sub : ℕ) (words : List ℕ) → new.alone ≡ old.alone → new.terminal.cutters ≡ old.terminal.cutters →
+    InStep k station starts loads outside old bus (x ∷ past) →
+    InStep k station starts (with-load loads record { tick = length past; address = station.terminal.address; sub = sub; words = words }) outside new bus
+    (x ∷ past)
+unfolding InStep
+loaded-step k station starts loads outside old new bus x past sub words alone cutters st =
+    let load : TimedLoad = record { tick = length past; address = station.terminal.address; sub = sub; words = words } in
+    let s : StationSoFar = sofar k station starts loads outside (x ∷ past) in
+    let more : StationSoFar = sofar k station starts (with-load loads load) outside (x ∷ past) in
+    let is : IsLoaded (length past) sub words s more = now-load k station starts loads outside load x past refl refl in
+    let holds : (course k station starts s.takes (x ∷ past)).holds ≡ (course k station starts more.takes (x ∷ past)).holds =
+    ap (λ (takes : List Take). (course k station starts takes (x ∷ past)).holds) (sym is.takes) in
+    let same : cutters_by ((course k station starts s.takes (x ∷ past)).holds || old.alone) old bus
+    ≡ cutters_by ((course k station starts more.takes (x ∷ past)).holds || new.alone) new bus =
+    ap (λ (h : Bool). cutters_by (h || old.alone) old bus) holds
+    ∙ ap (λ (a : Bool). cutters_by ((course k station starts more.takes (x ∷ past)).holds || a) old bus) (sym alone)
+    ∙ ap (λ (own : Cutters). if (course k station starts more.takes (x ∷ past)).holds || new.alone then own else bus) (sym cutters) in
+    subst (λ (c : Cutters). CuttersStand k c (heard_on A more.hearing.ticks) (heard_on B more.hearing.ticks)) same
+    (subst (λ (ticks : List Moment). CuttersStand k (cutters_by ((course k station starts s.takes (x ∷ past)).holds || old.alone) old bus) (heard_on A ticks)
+    (heard_on B ticks)) (sym (loaded-hears k station starts loads outside x past sub words)) st)

@@ -12,6 +12,6 @@ mod tests;
 pub mod waiting;
 
 pub use event::StationEvent;
-pub use laws::the_stations_of_an_accepted_plan_fit;
+pub use laws::{a_load_elsewhere_changes_nothing, the_stations_of_an_accepted_plan_fit};
 pub use role::Role;
 pub use station::Station;

@@ -199,6 +199,15 @@ impl Station {
         self.controller.items_left()
     }
 
+    /// Its address, 0 to 31.
+    pub fn address(&self) -> u8
+        ensures is { result ≡ self.now.address }
+        ensures own { (plan : StationData) (starts : Bool) (loads : List TimedLoad) (outside : List OutsideTake) (past : List Pair) →
+            StationKeeps LAG plan starts loads outside self.now past → result ≡ plan.terminal.address }
+    {
+        self.address
+    }
+
     /// Its terminal.
     pub fn terminal(&self) -> &Terminal
         ensures stands { (plan : StationData) (starts : Bool) (loads : List TimedLoad) (outside : List OutsideTake) (past : List Pair) →
@@ -217,12 +226,18 @@ impl Station {
         requires last { sub ≤ 29 }
         requires some { 1 ≤ length words.now }
         requires fits { length words.now ≤ 32 }
-        requires heard { (plan : StationData) × (starts : Bool) × (loads : List TimedLoad) × (outside : List OutsideTake) × (shown : Pair) × (past : List Pair)
-            × StationStands LAG plan starts loads outside self.old (shown ∷ past) }
         ensures stands { (plan : StationData) (starts : Bool) (loads : List TimedLoad) (outside : List OutsideTake) (shown : Pair) (past : List Pair) →
             StationStands LAG plan starts loads outside self.old (shown ∷ past) →
             StationStands LAG plan starts (loads ++ record { tick = length past; address = plan.terminal.address; sub = sub; words = words.now } ∷ []) outside
             self.new (shown ∷ past) }
+        ensures keeps { (plan : StationData) (starts : Bool) (loads : List TimedLoad) (outside : List OutsideTake) (shown : Pair) (past : List Pair) →
+            StationKeeps LAG plan starts loads outside self.old (shown ∷ past) →
+            StationKeeps LAG plan starts (loads ++ record { tick = length past; address = plan.terminal.address; sub = sub; words = words.now } ∷ []) outside
+            self.new (shown ∷ past) }
+        ensures in_step { (plan : StationData) (starts : Bool) (loads : List TimedLoad) (outside : List OutsideTake) (bus : Cutters) (shown : Pair)
+            (past : List Pair) → InStep LAG plan starts loads outside self.old bus (shown ∷ past) →
+            InStep LAG plan starts (loads ++ record { tick = length past; address = plan.terminal.address; sub = sub; words = words.now } ∷ []) outside
+            self.new bus (shown ∷ past) }
         ensures untold { self.new.event ≡ self.old.event }
     {
         self.terminal.load(sub, words);

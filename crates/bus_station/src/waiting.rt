@@ -1,5 +1,5 @@
-//! What a station that doesn't need each tick is between the ticks with which something becomes known. Laws alone, each the contract of a function that
-//! does nothing.
+//! What a station that doesn't need each tick is between the ticks with which something becomes known. Laws alone, each the contract of an
+//! empty function.
 ghost use Rattle.std.specs.Prelude.{◌≡◌, ◌∷◌, Bool, true, false, List};
 ghost use Rattle.bus_base.specs.declared.samples.Drive.TheVariants.{Silent};
 ghost use Rattle.bus_base.specs.declared.samples.Pair.{Pair};
@@ -16,10 +16,6 @@ ghost use Rattle.bus_station.specs.StationStands.{StationKeeps, AfterTick};
 ghost use Rattle.bus_station.specs.declared.event.StationEvent.TheVariants.{Nothing};
 ghost use Rattle.bus_station.specs.declared.station.Station.{Station};
 
-use bus_terminal::waiting::{
-    a_terminal_that_waits_is_silent, a_tick_without_an_end_leaves_a_terminal,
-};
-
 /// A tick with which nothing becomes known leaves a station that doesn't need each tick as it is, and right for the longer past: no attempt ends in the
 /// tick, its terminal takes no block, and it is in step with what a receiver hears of it.
 pub fn a_tick_without_an_end_leaves_a_station()
@@ -31,15 +27,11 @@ pub fn a_tick_without_an_end_leaves_a_station()
         (past : List Pair) (before after : Cutters) → needs_each_tick value ≡ false → are_nothing moment.cuts ≡ true →
         StationKeeps LAG plan starts loads outside value past → InStep LAG plan starts loads outside value before past → IsNext LAG moment before after past →
         InStep LAG plan starts loads outside value after (moment.shown ∷ past) }
-{
-    a_tick_without_an_end_leaves_a_terminal();
-}
+{}
 
 /// A station that doesn't need each tick sends nothing in the tick to come.
 pub fn a_station_that_waits_is_silent()
     ensures { (plan : StationData) (starts : Bool) (loads : List TimedLoad) (outside : List OutsideTake) (value : Station) (past : List Pair) →
         needs_each_tick value ≡ false → StationKeeps LAG plan starts loads outside value past →
         drives_next LAG plan starts loads outside past ≡ Silent }
-{
-    a_terminal_that_waits_is_silent();
-}
+{}

@@ -7,7 +7,7 @@ use Rattle.bus_receiver.specs.declared.cutters.Cutters.{Cutters}
 use Rattle.bus_terminal.specs.TerminalStands.{TerminalHears}
 use Rattle.bus_station.specs.StationStands.{StationStands, StationKeeps}
 use Rattle.bus_station.proofs.Serving.{sofar}
-use Rattle.bus_station.proofs.Loaded.{loaded-stands, loaded-hears}
+use Rattle.bus_station.proofs.Loaded.{loaded-stands, loaded-hears, loaded-step}
 use Rattle.bus_station.proofs.station.Station.load.Goals as goal
 
 pub returns-clause-stands : goal.returns-clause-stands
@@ -23,3 +23,13 @@ returns-clause-stands c = λ plan starts loads outside shown past st. (
         (heard_on B (sofar LAG plan starts loads outside (shown ∷ past)).hearing.ticks)) (sym c.load.ensures.cutters) st.1.cutters);
   },
 )
+
+pub returns-clause-keeps : goal.returns-clause-keeps
+unfolding StationKeeps
+returns-clause-keeps c = λ plan starts loads outside shown past st.
+    loaded-stands LAG plan starts loads outside c.args.self.now _ shown past c.args.sub c.args.words.now st refl refl refl
+    (λ memory now heard stands. c.load.ensures.timed plan.terminal loads memory now heard stands)
+
+pub returns-clause-in_step : goal.returns-clause-in_step
+returns-clause-in_step c = λ plan starts loads outside bus shown past st.
+    loaded-step LAG plan starts loads outside c.args.self.now _ bus shown past c.args.sub c.args.words.now refl c.load.ensures.cutters st
