@@ -10,7 +10,8 @@ use Rattle.bus_formats.specs.Accepted.{HasStationRanges, IsController, IsAccepte
 use Rattle.bus_formats.specs.Plans.{StationData, PlanData, without_subsystem, without_subsystems}
 use Rattle.bus_formats.specs.declared.plan.SubsystemKind.{SubsystemKind}
 use Rattle.bus_formats.specs.declared.plan.SubsystemKind.TheVariants.{Recorder, Tally}
-use Rattle.bus_run.specs.Deliveries.{served_at, served, ObjectsOf}
+use Rattle.bus_run.specs.Deliveries.{ObjectsOf}
+use Rattle.bus_run.specs.Settings.{served_at, served}
 use Rattle.bus_run.specs.Kept.{named_at, named_in, object_at, place_of, places_from, places}
 use Rattle.bus_run.proofs.Gathered.{all-at}
 use Rattle.bus_run.proofs.ServedLaws.{Apart, get-map, served-named, objects-of}

@@ -7,7 +7,7 @@ use Rattle.bus_base.specs.declared.samples.Sample.{Sample}
 use Rattle.bus_words.specs.declared.word.Word.{Word}
 use Rattle.bus_line.specs.Past.{Burst, newest_burst, first_tick}
 use Rattle.bus_line.specs.Channels.{valid_slots}
-use Rattle.bus_line.specs.Cutting.{CutterStands, Tells, Collects, Fills, cut_now, running_slots}
+use Rattle.bus_line.specs.Cutting.{Tells, Collects, Fills, cut_now, running_slots}
 use Rattle.bus_line.specs.declared.cutter.Cut.{Cut}
 use Rattle.bus_line.specs.declared.cutter.Cut.TheVariants as cuts
 use Rattle.bus_line.proofs.CutNow.{cut-tells}
@@ -47,13 +47,6 @@ kept-cut k ear x past (cuts.Slot i word) short small valid tells collects =
     let whole = fills.whole in
     kept-slot ear (running_slots k past) (running_slots k (x ∷ past)) i word valid collects.1 (omega (arith, small, place, whole))
 kept-cut k ear x past (cuts.Ended slots rest) short small valid tells collects = ap (count_by is_some) (sym collects.1)
-
--- the count alone changes
-keeps-cutter : (cut : Cut) (ear : Ear) → (after_cut cut ear).cutter ≡ ear.cutter
-keeps-cutter cuts.Nothing ear = refl
-keeps-cutter (cuts.Slot i None) ear = refl
-keeps-cutter (cuts.Slot i (Some word)) ear = refl
-keeps-cutter (cuts.Ended slots rest) ear = refl
 
 -- ---- what is told
 
@@ -97,10 +90,9 @@ ear-tells k c ear x past tick cut here st is =
     ap (λ v. burst_told k c tick v ear.valid) is ∙ told-cut k c ear x past tick (cut_now k (x ∷ past)) here st.valid_is (cut-tells k (x ∷ past))
 
 -- the ear stands for one tick more
-pub ear-keeps : (k : ℕ) (old ear : Ear) (x : Sample) (past : List Sample) (cut : Cut) → k ≤ 39 → length past < 2 ^ 32 → EarStands k old past →
-    ear.valid ≡ old.valid → CutterStands k ear.cutter (x ∷ past) → cut ≡ cut_now k (x ∷ past) → EarStands k (after_cut cut ear) (x ∷ past)
-ear-keeps k old ear x past cut short small st same cutter is = record {
-  cutter = rw (keeps-cutter cut ear) cutter;
+pub ear-keeps : (k : ℕ) (ear : Ear) (x : Sample) (past : List Sample) (cut : Cut) → k ≤ 39 → length past < 2 ^ 32 → EarStands k ear past →
+    cut ≡ cut_now k (x ∷ past) → EarStands k (after_cut cut ear) (x ∷ past)
+ear-keeps k ear x past cut short small st is = record {
   valid_is = ap (λ v. (after_cut v ear).valid) is
-      ∙ kept-cut k ear x past (cut_now k (x ∷ past)) short small (same ∙ st.valid_is) (cut-tells k (x ∷ past)) (cut-collects k x past short);
+      ∙ kept-cut k ear x past (cut_now k (x ∷ past)) short small st.valid_is (cut-tells k (x ∷ past)) (cut-collects k x past short);
 }

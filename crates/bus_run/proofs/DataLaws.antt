@@ -17,7 +17,7 @@ use Rattle.bus_model.specs.Orders.{leaves, carried_out, answered, obey_data, obe
 use Rattle.bus_model.specs.Standing.{Standing, Handled, obeys, settles, runs_out}
 use Rattle.bus_model.specs.Terminal.{standing, order_now, kept_by, done_by, taken_by, taken_of, took_now}
 use Rattle.bus_model.specs.Hearing.{Moment, Hearing}
-use Rattle.bus_model.specs.Control.{hear_more, hearing_after}
+use Rattle.bus_model.specs.Control.{OutsideTake, hear_more, hearing_after}
 use Rattle.bus_terminal.specs.Stands.{channel_of}
 use Rattle.bus_station.specs.Told.{delivery_of, delivery_in, heard_newest, delivered_newest}
 use Rattle.bus_run.specs.Data.{IsForData}
@@ -113,14 +113,16 @@ delivery-data : (tick : ℕ) (c : Channel) (taken : Option Taken) → IsOfData t
 delivery-data tick c None data-of = tt
 delivery-data tick c (Some block) data-of = data-of
 
-delivered-in : (station : StationData) (starts : Bool) (now : Moment) (hearing : Hearing) → IsForData (delivery_in LAG station starts [] [] now hearing)
-delivered-in station starts now hearing =
+delivered-data : (station : StationData) (starts : Bool) (loads : List TimedLoad) (outside : List OutsideTake) (now : Moment) (hearing : Hearing) →
+    IsForData (delivery_in LAG station starts loads outside now hearing)
+delivered-data station starts loads outside now hearing =
     delivery-data (length hearing.ticks)
-    (channel_of (standing LAG station.terminal [] hearing.memory hearing.ticks)
-    (order_now LAG station.terminal (now ∷ hearing.ticks) (standing LAG station.terminal [] hearing.memory hearing.ticks)))
-    (took_now LAG station.terminal [] (hear_more hearing now)) (taken-in LAG station.terminal [] hearing.memory (now ∷ hearing.ticks))
+    (channel_of (standing LAG station.terminal loads hearing.memory hearing.ticks)
+    (order_now LAG station.terminal (now ∷ hearing.ticks) (standing LAG station.terminal loads hearing.memory hearing.ticks)))
+    (took_now LAG station.terminal loads (hear_more hearing now)) (taken-in LAG station.terminal loads hearing.memory (now ∷ hearing.ticks))
 
-pub for-data : (station : StationData) (starts : Bool) (past : List Pair) → IsForData (delivered_newest LAG station starts [] [] past)
-for-data station starts [] = tt
-for-data station starts (shown ∷ past) =
-    delivered-in station starts (heard_newest LAG station starts [] [] shown past) (hearing_after LAG station starts [] [] past)
+pub for-data : (station : StationData) (starts : Bool) (loads : List TimedLoad) (outside : List OutsideTake) (past : List Pair) →
+    IsForData (delivered_newest LAG station starts loads outside past)
+for-data station starts loads outside [] = tt
+for-data station starts loads outside (shown ∷ past) =
+    delivered-data station starts loads outside (heard_newest LAG station starts loads outside shown past) (hearing_after LAG station starts loads outside past)

@@ -7,30 +7,30 @@ use Rattle.std.proofs.lemmas.Option.{same_Some, slice_get_within, get_or_from_sl
 use Rattle.std.proofs.lemmas.List.Folds.{list_any_more}
 use Rattle.std.proofs.lemmas.List.{length-append}
 use Rattle.bus_base.specs.declared.samples.Pair.{Pair}
+use Rattle.bus_line.specs.declared.cutter.TheConstants.{LAG}
 use Rattle.bus_formats.specs.Plans.{StationData, PlanData}
+use Rattle.bus_model.specs.WorldLog.{attempts}
 use Rattle.bus_formats.specs.declared.log.Delivery.{Delivery}
 use Rattle.bus_subsystem.specs.Deliveries.{Takes}
 use Rattle.bus_run.specs.Amounts.{most_deliveries}
-use Rattle.bus_run.specs.Deliveries.{delivered_of, deliveries, is_delivering, delivering, served, TellsMore, Serves}
-use Rattle.bus_run.proofs.RowLaws.{take-all}
+use Rattle.bus_run.specs.Deliveries.{delivered_of, delivered_in, deliveries, deliveries_in, is_delivering, is_delivering_in, delivering, served, TellsMore, Serves, ServesIn, ObjectsOf, AreFew}
+use Rattle.bus_run.specs.Settings.{Setting, alone}
+use Rattle.bus_run.specs.StationRows.{RowKeeps, RowStands, ended_in, count_after}
+use Rattle.bus_run.specs.declared.station_row.StationRow.{StationRow}
+use Rattle.bus_run.proofs.RowLaws.{take-all, delivering-none, attempts-next, row-told}
 
 -- ---- what is delivered
 
 -- nothing before the first tick
-pub deliveries-none : (plan : PlanData) (s : StationData) → deliveries plan s [] ≡ []
-unfolding deliveries
-deliveries-none plan s = refl
+pub deliveries-none : (w : Setting) (s : StationData) → deliveries_in w s [] ≡ []
+unfolding deliveries_in
+deliveries-none w s = refl
 
 -- one tick more
-pub deliveries-next : (plan : PlanData) (s : StationData) (shown : Pair) (past : List Pair) →
-    deliveries plan s (shown ∷ past) ≡ deliveries plan s past ++ option_to_list (delivered_of plan (shown ∷ past) s)
-unfolding deliveries
-deliveries-next plan s shown past = refl
-
--- no tick with a delivery before the first
-pub delivering-none : (plan : PlanData) → delivering plan [] ≡ 0
-unfolding delivering
-delivering-none plan = refl
+pub deliveries-next : (w : Setting) (s : StationData) (shown : Pair) (past : List Pair) →
+    deliveries_in w s (shown ∷ past) ≡ deliveries_in w s past ++ option_to_list (delivered_in w (shown ∷ past) s)
+unfolding deliveries_in
+deliveries-next w s shown past = refl
 
 -- one tick more
 pub delivering-next : (plan : PlanData) (shown : Pair) (past : List Pair) →
@@ -59,9 +59,9 @@ few-by ds n m false (Some d) some few is = (let no : false ≡ true = some refl 
 -- a station has no more deliveries than there are ticks with one
 pub deliveries-few : (plan : PlanData) (i : ℕ) (s : StationData) (past : List Pair) → slice_get plan.stations i ≡ Some s →
     length (deliveries plan s past) ≤ delivering plan past
-deliveries-few plan i s [] at = let none = ap length (deliveries-none plan s) in omega (arith, none)
+deliveries-few plan i s [] at = let none = ap length (deliveries-none (alone plan) s) in omega (arith, none)
 deliveries-few plan i s (shown ∷ past) at =
-    subst (λ ds. length ds ≤ delivering plan (shown ∷ past)) (sym (deliveries-next plan s shown past))
+    subst (λ ds. length ds ≤ delivering plan (shown ∷ past)) (sym (deliveries-next (alone plan) s shown past))
     (few-by (deliveries plan s past) (delivering plan past) (delivering plan (shown ∷ past)) (is_delivering plan (shown ∷ past) plan.stations)
     (delivered_of plan (shown ∷ past) s)
     (λ some. any-of (λ d. is_some (delivered_of plan (shown ∷ past) d)) plan.stations i s at some) (deliveries-few plan i s past at)
@@ -79,20 +79,33 @@ delivering-length plan (shown ∷ past) =
     (delivering-length plan past) (delivering-next plan shown past)
 
 -- with the station at the place
-pub delivering-more : (plan : PlanData) (past : List Pair) (place : ℕ) (s : StationData) (before now : Bool) → slice_get plan.stations place ≡ Some s →
-    before ≡ is_delivering plan past (take place plan.stations) → now ≡ is_some (delivered_of plan past s) →
-    (before || now) ≡ is_delivering plan past (take (place + 1) plan.stations)
-delivering-more plan past place s before now here was is =
-    let test : StationData → Bool = λ d. is_some (delivered_of plan past d) in
-    ap (λ b. b || now) was ∙ ap (λ b. is_delivering plan past (take place plan.stations) || b) is
-    ∙ ap (λ d. is_delivering plan past (take place plan.stations) || is_some (delivered_of plan past d))
-    (sym (get_or_from_slice_get plan.stations place s s here))
-    ∙ sym (list_any_more test plan.stations place s (slice_get_within plan.stations place s here))
+pub delivering-more : (w : Setting) (past : List Pair) (place : ℕ) (s : StationData) (before now : Bool) → slice_get w.plan.stations place ≡ Some s →
+    before ≡ is_delivering_in w past (take place w.plan.stations) → now ≡ is_some (delivered_in w past s) →
+    (before || now) ≡ is_delivering_in w past (take (place + 1) w.plan.stations)
+delivering-more w past place s before now here was is =
+    let test : StationData → Bool = λ d. is_some (delivered_in w past d) in
+    ap (λ b. b || now) was ∙ ap (λ b. is_delivering_in w past (take place w.plan.stations) || b) is
+    ∙ ap (λ d. is_delivering_in w past (take place w.plan.stations) || is_some (delivered_in w past d))
+    (sym (get_or_from_slice_get w.plan.stations place s s here))
+    ∙ sym (list_any_more test w.plan.stations place s (slice_get_within w.plan.stations place s here))
 
 -- with the last one
-pub delivering-all : (plan : PlanData) (past : List Pair) (place : ℕ) (took : Bool) → place ≡ length plan.stations →
-    took ≡ is_delivering plan past (take place plan.stations) → took ≡ is_delivering plan past plan.stations
-delivering-all plan past place took whole is = is ∙ ap (is_delivering plan past) (ap (λ n. take n plan.stations) whole ∙ take-all plan.stations)
+pub delivering-all : (w : Setting) (past : List Pair) (place : ℕ) (took : Bool) → place ≡ length w.plan.stations →
+    took ≡ is_delivering_in w past (take place w.plan.stations) → took ≡ is_delivering_in w past w.plan.stations
+delivering-all w past place took whole is = is ∙ ap (is_delivering_in w past) (ap (λ n. take n w.plan.stations) whole ∙ take-all w.plan.stations)
+
+-- a tick more has at most one tick with a delivery more
+pub count-few : (w : Setting) (shown : Pair) (past : List Pair) (count : ℕ) → count ≤ length past → count_after w (shown ∷ past) count ≤ length (shown ∷ past)
+count-few w shown past count few =
+    delivering-by count (count_after w (shown ∷ past) count) (length past) (is_delivering_in w (shown ∷ past) w.plan.stations) few refl
+
+-- where the ticks with a delivery are no more than there is room for, no terminal with an object took more blocks
+pub alone-few : (plan : PlanData) (objects : List (Option ℕ)) (past : List Pair) → ObjectsOf plan objects → delivering plan past ≤ most_deliveries plan →
+    AreFew (alone plan) past
+alone-few plan objects past of few = λ p s at.
+    let (i, here, object) = of.whole p s at in
+    let most = deliveries-few plan i s past here in
+    omega (arith, most, few)
 
 -- ---- what is told
 
@@ -121,11 +134,18 @@ serves-start plan told spare n all all-spare enough room = record {
   all_before = all;
   all_spare = all-spare;
   tells = λ p s old now found was is.
-      subst (λ t. TellsMore old (deliveries plan s []) t) (same_Some old now (sym was ∙ is)) (tells-none old (deliveries plan s []) (deliveries-none plan s));
+      subst (λ t. TellsMore old (deliveries_in (alone plan) s []) t) (same_Some old now (sym was ∙ is)) (tells-none old (deliveries_in (alone plan) s []) (deliveries-none (alone plan) s));
   room = λ p s m found at. (let low = room p m at in omega (arith, low, enough));
 }
 
 -- the same past
-pub serves-moved : (plan : PlanData) (before : List (Option (List Delivery))) (past past' : List Pair) (told : List (Option (List Delivery))) (spare : List ℕ) →
-    past ≡ past' → Serves plan before past told spare → Serves plan before past' told spare
-serves-moved plan before past past' told spare same serves = subst (λ ps. Serves plan before ps told spare) same serves
+pub serves-moved : (w : Setting) (before : List (Option (List Delivery))) (past past' : List Pair) (told : List (Option (List Delivery))) (spare : List ℕ) →
+    past ≡ past' → ServesIn w before past told spare → ServesIn w before past' told spare
+serves-moved w before past past' told spare same serves = subst (λ ps. ServesIn w before ps told spare) same serves
+
+-- the row of a bus that is joined to nothing, after a tick
+pub row-next : (most : ℕ) (plan : PlanData) (row : StationRow) (shown : Pair) (past : List Pair) →
+    RowKeeps most (alone plan) (attempts LAG plan [] [] [] past ++ ended_in (alone plan) (shown ∷ past))
+    (count_after (alone plan) (shown ∷ past) (delivering plan past)) row (shown ∷ past) → RowStands most plan row (shown ∷ past)
+row-next most plan row shown past st =
+    row-told most (alone plan) _ _ _ _ row (shown ∷ past) (sym (attempts-next (alone plan) shown past)) (sym (delivering-next plan shown past)) st

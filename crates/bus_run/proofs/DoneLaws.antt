@@ -1,7 +1,8 @@
 -- Whether every station is idle and none is taking control.
-use Rattle.std.proofs.Common.{◌≡◌, ℕ, zero, suc, ◌+◌, Bool, true, false, not, ◌&&◌, List, []}
+use Rattle.std.proofs.Common.{◌≡◌, ℕ, zero, suc, ◌+◌, ◌≤◌, ◌<◌, arith, Bool, true, false, not, ◌&&◌, List, []}
 use Rattle.std.proofs.Common.{◌∷◌, length, drop, refl, ap, sym, ◌∙◌, add-one, Option, Some, None, if◌then◌else◌}
-use Rattle.std.specs.Prelude.{is_none, slice_get}
+use Rattle.std.specs.Prelude.{is_none, nat_le, slice_get}
+use Rattle.std.proofs.lemmas.Bool.Decides.{nat_tests}
 use Rattle.std.specs.List.{list_all}
 use Rattle.std.proofs.lemmas.Option.{same_Some}
 use Rattle.bus_station.specs.Roles.{role_by}
@@ -49,3 +50,23 @@ all-ends p xs i x here is = ap (list_all p) (rest-from xs i x here) ∙ ap (λ b
 pub all-asked : {A : Type 0} (p : A → Bool) (xs : List A) (n : ℕ) → n ≡ length xs → list_all p (drop n xs) ≡ true
 all-asked p [] n is = rw is refl
 all-asked p (x ∷ xs) n is = rw is (all-asked p xs (length xs) refl)
+
+-- ---- the end of a run
+
+-- both channels were quiet long enough, so it is over where all are done
+pub over-then : (quiet counted : ℕ) (done found : Bool) → quiet ≡ counted → 80 ≤ quiet → found ≡ done → found ≡ (nat_le 80 counted && done)
+over-then quiet counted done found is long same =
+    let test : nat_le 80 counted ≡ true = grind (arith, nat_tests, is, long) in
+    same ∙ sym (ap (λ b. b && done) test)
+
+-- or not yet
+pub over-else : (quiet counted : ℕ) (done : Bool) → quiet ≡ counted → quiet < 80 → false ≡ (nat_le 80 counted && done)
+over-else quiet counted done is short =
+    let test : nat_le 80 counted ≡ false = grind (arith, nat_tests, is, short) in
+    sym (ap (λ b. b && done) test)
+
+-- the same of the test itself
+pub over-test : (quiet counted : ℕ) (done : Bool) → quiet ≡ counted → quiet < 80 → nat_le 80 quiet ≡ (nat_le 80 counted && done)
+over-test quiet counted done is short =
+    let test : nat_le 80 quiet ≡ false = grind (arith, nat_tests, short) in
+    test ∙ over-else quiet counted done is short

@@ -1,6 +1,5 @@
 pub mod Capped
 pub mod BurstLaws
-pub mod DriveLaws
 pub mod WireLaws
 pub mod MonitorLaws
 pub mod RowLaws
@@ -24,3 +23,9 @@ pub mod Delivering
 pub mod TableRun
 pub mod TableDeliveries
 pub mod Beginning
+pub mod NewLaws
+pub mod LoadingLaws
+pub mod JoinedLaws
+pub mod CalledLaws
+pub mod DrivenLaws
+pub mod PassedLaws

@@ -7,58 +7,59 @@ use Rattle.std.proofs.lemmas.Bool.Decides.{nat_tests}
 use Rattle.std.proofs.lemmas.Option.{same_Some, slice_get_within, slice_get-map}
 use Rattle.std.proofs.lemmas.List.{length-append, length-map}
 use Rattle.bus_base.specs.declared.samples.Pair.{Pair}
-use Rattle.bus_formats.specs.Plans.{StationData, PlanData}
+use Rattle.bus_formats.specs.Plans.{StationData}
 use Rattle.bus_formats.specs.declared.log.Delivery.{Delivery}
 use Rattle.bus_subsystem.specs.Deliveries.{Takes}
 use Rattle.bus_run.specs.Amounts.{most_deliveries}
-use Rattle.bus_run.specs.Deliveries.{delivered_of, deliveries, delivering, served, ObjectsOf, TellsMore, Serves, IsHandedOn, AreHandedOut}
+use Rattle.bus_run.specs.Deliveries.{delivered_in, deliveries_in, ObjectsIn, TellsMore, ServesIn, AreFew, IsHandedOn, AreHandedOut}
+use Rattle.bus_run.specs.Settings.{Setting}
 use Rattle.bus_run.specs.StationRows.{heard_at, ObjectsHear}
-use Rattle.bus_run.proofs.DeliveryLaws.{deliveries-next, deliveries-few, tells-next}
+use Rattle.bus_run.proofs.DeliveryLaws.{deliveries-next, tells-next}
 use Rattle.bus_run.proofs.RowLaws.{found-at, not-below, none-below, below-more, below-other}
 
 -- ---- a tick
 
 -- before the first station heard it
-pub objects-start : (plan : PlanData) (objects : List (Option ℕ)) (before : List (Option (List Delivery))) (shown : Pair) (past : List Pair)
-    (told : List (Option (List Delivery))) (spare : List ℕ) → ObjectsOf plan objects → Serves plan before past told spare →
-    ObjectsHear plan objects before 0 shown past told spare
-objects-start plan objects before shown past told spare of serves = record {
+pub objects-start : (w : Setting) (objects : List (Option ℕ)) (before : List (Option (List Delivery))) (shown : Pair) (past : List Pair)
+    (told : List (Option (List Delivery))) (spare : List ℕ) → ObjectsIn w objects → ServesIn w before past told spare →
+    ObjectsHear w objects before 0 shown past told spare
+objects-start w objects before shown past told spare of serves = record {
   all = serves.all;
   all_before = serves.all_before;
   all_spare = serves.all_spare;
   tells = λ i p s old now here at was is.
-      subst (λ b. TellsMore old (deliveries plan s (if b then shown ∷ past else past)) now) (sym (none-below i))
+      subst (λ b. TellsMore old (deliveries_in w s (if b then shown ∷ past else past)) now) (sym (none-below i))
       (serves.tells p s old now (of.there i p s here at) was is);
   room = λ i p s n here at is.
-      subst (λ b. most_deliveries plan + 1 ≤ n + length (deliveries plan s (if b then shown ∷ past else past))) (sym (none-below i))
+      subst (λ b. most_deliveries w.plan + 1 ≤ n + length (deliveries_in w s (if b then shown ∷ past else past))) (sym (none-below i))
       (serves.room p s n (of.there i p s here at) is);
 }
 
 -- the same places
-pub objects-moved : (plan : PlanData) (objects objects' : List (Option ℕ)) (before : List (Option (List Delivery))) (place : ℕ) (shown : Pair)
+pub objects-moved : (w : Setting) (objects objects' : List (Option ℕ)) (before : List (Option (List Delivery))) (place : ℕ) (shown : Pair)
     (past : List Pair) (told : List (Option (List Delivery))) (spare : List ℕ) → objects' ≡ objects →
-    ObjectsHear plan objects before place shown past told spare → ObjectsHear plan objects' before place shown past told spare
-objects-moved plan objects objects' before place shown past told spare same hear =
-    subst (λ os. ObjectsHear plan os before place shown past told spare) (sym same) hear
+    ObjectsHear w objects before place shown past told spare → ObjectsHear w objects' before place shown past told spare
+objects-moved w objects objects' before place shown past told spare same hear =
+    subst (λ os. ObjectsHear w os before place shown past told spare) (sym same) hear
 
 -- after the last
-pub objects-end : (plan : PlanData) (objects : List (Option ℕ)) (before : List (Option (List Delivery))) (place : ℕ) (shown : Pair) (past : List Pair)
-    (told : List (Option (List Delivery))) (spare : List ℕ) → ObjectsOf plan objects → place ≡ length plan.stations →
-    ObjectsHear plan objects before place shown past told spare → Serves plan before (shown ∷ past) told spare
-objects-end plan objects before place shown past told spare of whole hear =
-    let heard : (i : ℕ) (s : StationData) → slice_get plan.stations i ≡ Some s → nat_lt i place ≡ true =
-    λ i s here. (let within = slice_get_within plan.stations i s here in grind (arith, nat_tests, within, whole)) in
+pub objects-end : (w : Setting) (objects : List (Option ℕ)) (before : List (Option (List Delivery))) (place : ℕ) (shown : Pair) (past : List Pair)
+    (told : List (Option (List Delivery))) (spare : List ℕ) → ObjectsIn w objects → place ≡ length w.plan.stations →
+    ObjectsHear w objects before place shown past told spare → ServesIn w before (shown ∷ past) told spare
+objects-end w objects before place shown past told spare of whole hear =
+    let heard : (i : ℕ) (s : StationData) → slice_get w.plan.stations i ≡ Some s → nat_lt i place ≡ true =
+    λ i s here. (let within = slice_get_within w.plan.stations i s here in grind (arith, nat_tests, within, whole)) in
     record {
       all = hear.all;
       all_before = hear.all_before;
       all_spare = hear.all_spare;
       tells = λ p s old now at was is.
           let (i, here, object) = of.whole p s at in
-          subst (λ b. TellsMore old (deliveries plan s (if b then shown ∷ past else past)) now) (heard i s here)
+          subst (λ b. TellsMore old (deliveries_in w s (if b then shown ∷ past else past)) now) (heard i s here)
           (hear.tells i p s old now here object was is);
       room = λ p s n at is.
           let (i, here, object) = of.whole p s at in
-          subst (λ b. most_deliveries plan + 1 ≤ n + length (deliveries plan s (if b then shown ∷ past else past))) (heard i s here)
+          subst (λ b. most_deliveries w.plan + 1 ≤ n + length (deliveries_in w s (if b then shown ∷ past else past))) (heard i s here)
           (hear.room i p s n here object is);
     }
 
@@ -80,21 +81,21 @@ heard-other i place shown past other = ap (λ b. if b then shown ∷ past else p
 abbrev Step : ℕ → ℕ → List Delivery → List Delivery → Option Delivery → Type 0
 Step i place before after d = ((i ≡ place) × (after ≡ before ++ option_to_list d)) ⊎ ((i ≢ place) × (after ≡ before))
 
-step-by : (plan : PlanData) (place : ℕ) (shown : Pair) (past : List Pair) (own : StationData) (d : Option Delivery) (i : ℕ) (s : StationData) →
-    slice_get plan.stations place ≡ Some own → delivered_of plan (shown ∷ past) own ≡ d → slice_get plan.stations i ≡ Some s → (i ≡ place) ⊎ (i ≢ place) →
-    Step i place (deliveries plan s (heard_at i place shown past)) (deliveries plan s (heard_at i (place + 1) shown past)) d
-step-by plan place shown past own d i s here is found (inl same) =
-    let own-is : own ≡ s = same_Some own s (sym here ∙ ap (slice_get plan.stations) (sym same) ∙ found) in
+step-by : (w : Setting) (place : ℕ) (shown : Pair) (past : List Pair) (own : StationData) (d : Option Delivery) (i : ℕ) (s : StationData) →
+    slice_get w.plan.stations place ≡ Some own → delivered_in w (shown ∷ past) own ≡ d → slice_get w.plan.stations i ≡ Some s → (i ≡ place) ⊎ (i ≢ place) →
+    Step i place (deliveries_in w s (heard_at i place shown past)) (deliveries_in w s (heard_at i (place + 1) shown past)) d
+step-by w place shown past own d i s here is found (inl same) =
+    let own-is : own ≡ s = same_Some own s (sym here ∙ ap (slice_get w.plan.stations) (sym same) ∙ found) in
     inl (
       same,
-      ap (λ j. deliveries plan s (heard_at j (place + 1) shown past)) same ∙ ap (deliveries plan s) (heard-now place shown past)
-          ∙ deliveries-next plan s shown past
-          ∙ ap (λ ds. ds ++ option_to_list (delivered_of plan (shown ∷ past) s))
-          (ap (deliveries plan s) (sym (heard-before place shown past)) ∙ ap (λ j. deliveries plan s (heard_at j place shown past)) (sym same))
-          ∙ ap (λ o. deliveries plan s (heard_at i place shown past) ++ option_to_list o)
-          (ap (delivered_of plan (shown ∷ past)) (sym own-is) ∙ is),
+      ap (λ j. deliveries_in w s (heard_at j (place + 1) shown past)) same ∙ ap (deliveries_in w s) (heard-now place shown past)
+          ∙ deliveries-next w s shown past
+          ∙ ap (λ ds. ds ++ option_to_list (delivered_in w (shown ∷ past) s))
+          (ap (deliveries_in w s) (sym (heard-before place shown past)) ∙ ap (λ j. deliveries_in w s (heard_at j place shown past)) (sym same))
+          ∙ ap (λ o. deliveries_in w s (heard_at i place shown past) ++ option_to_list o)
+          (ap (delivered_in w (shown ∷ past)) (sym own-is) ∙ is),
     )
-step-by plan place shown past own d i s here is found (inr other) = inr (other, ap (deliveries plan s) (heard-other i place shown past other))
+step-by w place shown past own d i s here is found (inr other) = inr (other, ap (deliveries_in w s) (heard-other i place shown past other))
 
 -- the station at the place took nothing: by cases
 same-tells : (i place : ℕ) (before after : List Delivery) (old now : Option (List Delivery)) → Step i place before after None → TellsMore old before now →
@@ -107,18 +108,18 @@ same-room i place n m before after (inl (same, is)) room = subst (λ ds. m ≤ n
 same-room i place n m before after (inr (other, is)) room = subst (λ ds. m ≤ n + length ds) (sym is) room
 
 -- the station at the place took nothing
-pub objects-same : (plan : PlanData) (objects : List (Option ℕ)) (before : List (Option (List Delivery))) (place : ℕ) (shown : Pair) (past : List Pair)
-    (told : List (Option (List Delivery))) (spare : List ℕ) (own : StationData) → slice_get plan.stations place ≡ Some own →
-    delivered_of plan (shown ∷ past) own ≡ None → ObjectsHear plan objects before place shown past told spare →
-    ObjectsHear plan objects before (place + 1) shown past told spare
-objects-same plan objects before place shown past told spare own here is hear = record {
+pub objects-same : (w : Setting) (objects : List (Option ℕ)) (before : List (Option (List Delivery))) (place : ℕ) (shown : Pair) (past : List Pair)
+    (told : List (Option (List Delivery))) (spare : List ℕ) (own : StationData) → slice_get w.plan.stations place ≡ Some own →
+    delivered_in w (shown ∷ past) own ≡ None → ObjectsHear w objects before place shown past told spare →
+    ObjectsHear w objects before (place + 1) shown past told spare
+objects-same w objects before place shown past told spare own here is hear = record {
   all = hear.all;
   all_before = hear.all_before;
   all_spare = hear.all_spare;
   tells = λ i p s old now found at was told-now. same-tells i place _ _ old now
-      (step-by plan place shown past own None i s here is found (cases_eq i place)) (hear.tells i p s old now found at was told-now);
-  room = λ i p s n found at left. same-room i place n (most_deliveries plan + 1) _ _
-      (step-by plan place shown past own None i s here is found (cases_eq i place)) (hear.room i p s n found at left);
+      (step-by w place shown past own None i s here is found (cases_eq i place)) (hear.tells i p s old now found at was told-now);
+  room = λ i p s n found at left. same-room i place n (most_deliveries w.plan + 1) _ _
+      (step-by w place shown past own None i s here is found (cases_eq i place)) (hear.room i p s n found at left);
 }
 
 -- the station at the place took a block: by cases
@@ -154,54 +155,54 @@ handed-room objects object d told told' spare spare' i place p n m before after 
     subst (λ ds. m ≤ n + length ds) (sym is) (room n (sym (handed.others_spare p another) ∙ left))
 
 -- the station at the place took a block, and its object takes it
-pub objects-handed : (plan : PlanData) (objects : List (Option ℕ)) (before : List (Option (List Delivery))) (place : ℕ) (shown : Pair) (past : List Pair)
-    (told told' : List (Option (List Delivery))) (spare spare' : List ℕ) (own : StationData) (object : Option ℕ) (d : Delivery) → ObjectsOf plan objects →
-    slice_get plan.stations place ≡ Some own → slice_get objects place ≡ Some object → delivered_of plan (shown ∷ past) own ≡ Some d →
-    IsHandedOn object d told told' spare spare' → ObjectsHear plan objects before place shown past told spare →
-    ObjectsHear plan objects before (place + 1) shown past told' spare'
-objects-handed plan objects before place shown past told told' spare spare' own object d of here object-here is handed hear = record {
+pub objects-handed : (w : Setting) (objects : List (Option ℕ)) (before : List (Option (List Delivery))) (place : ℕ) (shown : Pair) (past : List Pair)
+    (told told' : List (Option (List Delivery))) (spare spare' : List ℕ) (own : StationData) (object : Option ℕ) (d : Delivery) → ObjectsIn w objects →
+    slice_get w.plan.stations place ≡ Some own → slice_get objects place ≡ Some object → delivered_in w (shown ∷ past) own ≡ Some d →
+    IsHandedOn object d told told' spare spare' → ObjectsHear w objects before place shown past told spare →
+    ObjectsHear w objects before (place + 1) shown past told' spare'
+objects-handed w objects before place shown past told told' spare spare' own object d of here object-here is handed hear = record {
   all = handed.all ∙ hear.all;
   all_before = hear.all_before;
   all_spare = handed.all_spare ∙ hear.all_spare;
   tells = λ i p s old now found at was told-now. handed-tells objects object d told told' spare spare' i place p _ _ old now object-here of.apart at handed
-      (step-by plan place shown past own (Some d) i s here is found (cases_eq i place)) told-now
+      (step-by w place shown past own (Some d) i s here is found (cases_eq i place)) told-now
       (λ x told-old. hear.tells i p s old x found at was told-old);
-  room = λ i p s n found at left. handed-room objects object d told told' spare spare' i place p n (most_deliveries plan + 1) _ _ object-here of.apart at
-      handed (step-by plan place shown past own (Some d) i s here is found (cases_eq i place)) left
+  room = λ i p s n found at left. handed-room objects object d told told' spare spare' i place p n (most_deliveries w.plan + 1) _ _ object-here of.apart at
+      handed (step-by w place shown past own (Some d) i s here is found (cases_eq i place)) left
       (λ x before-left. hear.room i p s x found at before-left);
 }
 
 -- the station at the place took a block, or none
-pub objects-out : (plan : PlanData) (objects : List (Option ℕ)) (before : List (Option (List Delivery))) (place : ℕ) (shown : Pair) (past : List Pair)
+pub objects-out : (w : Setting) (objects : List (Option ℕ)) (before : List (Option (List Delivery))) (place : ℕ) (shown : Pair) (past : List Pair)
     (told told' : List (Option (List Delivery))) (spare spare' : List ℕ) (own : StationData) (object : Option ℕ) (d : Option Delivery) →
-    ObjectsOf plan objects → slice_get plan.stations place ≡ Some own → slice_get objects place ≡ Some object →
-    delivered_of plan (shown ∷ past) own ≡ d → AreHandedOut object d told told' spare spare' →
-    ObjectsHear plan objects before place shown past told spare → ObjectsHear plan objects before (place + 1) shown past told' spare'
-objects-out plan objects before place shown past told told' spare spare' own object None of here object-here is (same, same-spare) hear =
-    subst (λ ts. ObjectsHear plan objects before (place + 1) shown past ts spare') (sym same)
-    (subst (λ ns. ObjectsHear plan objects before (place + 1) shown past told ns) (sym same-spare)
-    (objects-same plan objects before place shown past told spare own here is hear))
-objects-out plan objects before place shown past told told' spare spare' own object (Some d) of here object-here is handed hear =
-    objects-handed plan objects before place shown past told told' spare spare' own object d of here object-here is handed hear
+    ObjectsIn w objects → slice_get w.plan.stations place ≡ Some own → slice_get objects place ≡ Some object →
+    delivered_in w (shown ∷ past) own ≡ d → AreHandedOut object d told told' spare spare' →
+    ObjectsHear w objects before place shown past told spare → ObjectsHear w objects before (place + 1) shown past told' spare'
+objects-out w objects before place shown past told told' spare spare' own object None of here object-here is (same, same-spare) hear =
+    subst (λ ts. ObjectsHear w objects before (place + 1) shown past ts spare') (sym same)
+    (subst (λ ns. ObjectsHear w objects before (place + 1) shown past told ns) (sym same-spare)
+    (objects-same w objects before place shown past told spare own here is hear))
+objects-out w objects before place shown past told told' spare spare' own object (Some d) of here object-here is handed hear =
+    objects-handed w objects before place shown past told told' spare spare' own object d of here object-here is handed hear
 
 -- the object of the station at the place has room for a delivery
-pub room-left : (plan : PlanData) (objects : List (Option ℕ)) (before : List (Option (List Delivery))) (place : ℕ) (shown : Pair) (past : List Pair)
-    (told : List (Option (List Delivery))) (spare : List ℕ) (own : StationData) (p n : ℕ) → ObjectsHear plan objects before place shown past told spare →
-    slice_get plan.stations place ≡ Some own → slice_get objects place ≡ Some (Some p) → delivering plan past ≤ most_deliveries plan →
+pub room-left : (w : Setting) (objects : List (Option ℕ)) (before : List (Option (List Delivery))) (place : ℕ) (shown : Pair) (past : List Pair)
+    (told : List (Option (List Delivery))) (spare : List ℕ) (own : StationData) (p n : ℕ) → ObjectsIn w objects → ObjectsHear w objects before place shown past told spare →
+    slice_get w.plan.stations place ≡ Some own → slice_get objects place ≡ Some (Some p) → AreFew w past →
     slice_get spare p ≡ Some n → 0 < n
-room-left plan objects before place shown past told spare own p n hear here at few left =
-    let room : most_deliveries plan + 1 ≤ n + length (deliveries plan own past) =
-    subst (λ ps. most_deliveries plan + 1 ≤ n + length (deliveries plan own ps)) (heard-before place shown past) (hear.room place p own n here at left) in
-    let most = deliveries-few plan place own past here in
-    omega (arith, room, most, few)
+room-left w objects before place shown past told spare own p n of hear here at few left =
+    let room : most_deliveries w.plan + 1 ≤ n + length (deliveries_in w own past) =
+    subst (λ ps. most_deliveries w.plan + 1 ≤ n + length (deliveries_in w own ps)) (heard-before place shown past) (hear.room place p own n here at left) in
+    let most = few p own (of.there place p own here at) in
+    omega (arith, room, most)
 
 -- it is one of the objects
-pub object-within : (plan : PlanData) (objects : List (Option ℕ)) (before : List (Option (List Delivery))) (place : ℕ) (shown : Pair) (past : List Pair)
-    (told : List (Option (List Delivery))) (spare : List ℕ) (own : StationData) (p : ℕ) → ObjectsOf plan objects →
-    ObjectsHear plan objects before place shown past told spare → slice_get plan.stations place ≡ Some own → slice_get objects place ≡ Some (Some p) →
+pub object-within : (w : Setting) (objects : List (Option ℕ)) (before : List (Option (List Delivery))) (place : ℕ) (shown : Pair) (past : List Pair)
+    (told : List (Option (List Delivery))) (spare : List ℕ) (own : StationData) (p : ℕ) → ObjectsIn w objects →
+    ObjectsHear w objects before place shown past told spare → slice_get w.plan.stations place ≡ Some own → slice_get objects place ≡ Some (Some p) →
     p < length told
-object-within plan objects before place shown past told spare own p of hear here at =
-    let within = slice_get_within (served plan) p own (of.there place p own here at) in
+object-within w objects before place shown past told spare own p of hear here at =
+    let within = slice_get_within (w.served) p own (of.there place p own here at) in
     let all = hear.all in
     omega (arith, within, all)
 

@@ -6,7 +6,7 @@ use Rattle.std.proofs.lemmas.Bool.Decides.{nat_tests}
 use Rattle.std.proofs.lemmas.Option.{same_Some}
 use Rattle.bus_formats.specs.Plans.{StationData, PlanData}
 use Rattle.bus_formats.specs.declared.plan.SubsystemKind.{SubsystemKind}
-use Rattle.bus_run.specs.Deliveries.{served_at, served}
+use Rattle.bus_run.specs.Settings.{served_at, served}
 use Rattle.bus_run.specs.Kept.{named_at, named_in, place_of, places_from, places}
 use Rattle.bus_run.specs.Places.{IsPlaceOf}
 

@@ -8,7 +8,8 @@ use Rattle.std.proofs.lemmas.Option.{same_Some, slice_get_within}
 use Rattle.std.proofs.lemmas.List.{length-map, take-map}
 use Rattle.std.proofs.lemmas.List.Sums.{sum_by-cons}
 use Rattle.bus_formats.specs.Plans.{StationData, PlanData}
-use Rattle.bus_run.specs.Deliveries.{served_at, served, ObjectsOf}
+use Rattle.bus_run.specs.Deliveries.{ObjectsOf}
+use Rattle.bus_run.specs.Settings.{served_at, served}
 use Rattle.bus_run.specs.Kept.{named_at, named_in, count_below, object_at}
 use Rattle.bus_run.proofs.RowLaws.{found-at}
 

@@ -21,7 +21,7 @@ use Rattle.bus_law_messages.proofs.Heard.{hearing-long}
 use Rattle.bus_law_table.specs.Happened.{block_at}
 use Rattle.bus_law_run.specs.Blocks.{heard_newest, taken_newest, delivery_newest, deliveries_of}
 use Rattle.bus_law_run.specs.WorldIsRun.{plan_run, plan_end}
-use Rattle.bus_run.specs.Deliveries.{delivered_of, deliveries, ObjectsOf, TellsMore, Serves}
+use Rattle.bus_run.specs.Deliveries.{delivered_of, deliveries, deliveries_in, ObjectsOf, TellsMore, Serves}
 use Rattle.bus_run.specs.Tables.{TellTables}
 use Rattle.bus_run.proofs.TableRun.{of-plan}
 
@@ -63,7 +63,7 @@ module _ (plan : PlanData) (s : StationData) where
 
   -- all of them
   deliveries-same : (past : List Pair) → deliveries plan s past ≡ deliveries_of LAG s (starts plan s) [] [] past
-  unfolding deliveries deliveries_of
+  unfolding deliveries_in deliveries_of
   deliveries-same [] = refl
   deliveries-same (shown ∷ past) =
       ap (λ o. deliveries plan s past ++ option_to_list o) (newest-same shown past)

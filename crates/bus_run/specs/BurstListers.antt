@@ -6,7 +6,7 @@ use Rattle.bus_base.specs.declared.samples.Pair.{Pair}
 use Rattle.bus_base.specs.declared.samples.Sample.{Sample}
 use Rattle.bus_line.specs.Past.{Burst, ended_now}
 use Rattle.bus_line.specs.Channels.{on_channel, valid_slots}
-use Rattle.bus_line.specs.Cutting.{CutterStands, running_slots}
+use Rattle.bus_line.specs.Cutting.{running_slots}
 use Rattle.bus_line.specs.declared.cutter.Cut.{Cut}
 use Rattle.bus_line.specs.declared.cutter.Cut.TheVariants as cuts
 use Rattle.bus_formats.specs.declared.log.HeardBurst.{HeardBurst}
@@ -54,7 +54,6 @@ burst_told k c tick (cuts.Ended slots rest) valid =
 
 -- the ear of a channel stands for what the channel showed
 pub record EarStands (k : ℕ) (ear : Ear) (past : List Sample) : Type 0 where
-  pub cutter : CutterStands k ear.cutter past
   pub valid_is : ear.valid ≡ count_by is_some (running_slots k past)
 
 -- the lister stands for what both channels showed

@@ -1,30 +1,54 @@
 -- What the terminals of a run take, and the objects of the subsystems that it is delivered to.
-use Rattle.std.specs.Prelude.{◌≡◌, ◌≢◌, ℕ, suc, ◌+◌, ◌≤◌, ◌==◌, if◌then◌else◌, Bool, List, [], ◌∷◌, ◌++◌, length, filter_map, option_to_list, slice_get}
+use Rattle.std.specs.Prelude.{◌≡◌, ◌≢◌, ℕ, suc, ◌+◌, ◌≤◌, if◌then◌else◌, Bool, List, [], ◌∷◌, ◌++◌, length, map, flat_map, option_to_list, slice_get}
 use Rattle.std.specs.Prelude.{Option, Some, None, is_some, ⊤}
-use Rattle.std.specs.List.{list_any, range_with_len}
+use Rattle.std.specs.List.{list_any}
 use Rattle.bus_base.specs.declared.samples.Pair.{Pair}
 use Rattle.bus_line.specs.declared.cutter.TheConstants.{LAG}
 use Rattle.bus_formats.specs.Plans.{StationData, PlanData}
 use Rattle.bus_formats.specs.declared.log.Delivery.{Delivery}
 use Rattle.bus_model.specs.Starts.{starts}
+use Rattle.bus_model.specs.World.{is_present}
 use Rattle.bus_station.specs.Told.{delivered_newest}
 use Rattle.bus_subsystem.specs.Deliveries.{Takes}
 use Rattle.bus_run.specs.Amounts.{most_deliveries}
+use Rattle.bus_run.specs.Settings.{Setting, alone}
+unfoldable pub use Rattle.bus_run.specs.Settings.{served}
+use Rattle.bus_run.specs.declared.taken.TakenBlock.{TakenBlock}
 
 -- ---- what the terminals take
 
--- the block that a station's terminal took whole in the newest tick
+module _ (w : Setting) where
+  -- the block that a station's terminal took whole in the newest tick, where the station is present
+  abbrev pub delivered_in : List Pair → StationData → Option Delivery
+  delivered_in past s =
+      if is_present w.absent s then delivered_newest LAG s (starts w.plan s) w.loads w.outside past else None
+
+  -- the blocks that a station's terminal took whole, in order
+  unfoldable pub deliveries_in : StationData → List Pair → List Delivery
+  deliveries_in s [] = []
+  deliveries_in s (shown ∷ past) = deliveries_in s past ++ option_to_list (delivered_in (shown ∷ past) s)
+
+  -- whether the terminal of one of these stations took a block in the newest tick
+  abbrev pub is_delivering_in : List Pair → List StationData → Bool
+  is_delivering_in past stations = list_any (λ s. is_some (delivered_in past s)) stations
+
+  -- that block, if there is one, with the address of the terminal
+  abbrev pub taken_by : List Pair → StationData → List TakenBlock
+  taken_by past s = map (λ d. record { address = s.terminal.address; delivery = d }) (option_to_list (delivered_in past s))
+
+  -- the blocks that the terminals took in the newest tick, in the order of the plan
+  abbrev pub taken_in : List Pair → List TakenBlock
+  taken_in past = flat_map (taken_by past) w.plan.stations
+
+-- the same of a bus that is joined to nothing
 abbrev pub delivered_of : PlanData → List Pair → StationData → Option Delivery
-delivered_of plan past s = delivered_newest LAG s (starts plan s) [] [] past
+delivered_of plan past s = delivered_in (alone plan) past s
 
--- the blocks that a station's terminal took whole, in order
-unfoldable pub deliveries : PlanData → StationData → List Pair → List Delivery
-deliveries plan s [] = []
-deliveries plan s (shown ∷ past) = deliveries plan s past ++ option_to_list (delivered_of plan (shown ∷ past) s)
+abbrev pub deliveries : PlanData → StationData → List Pair → List Delivery
+deliveries plan s past = deliveries_in (alone plan) s past
 
--- whether the terminal of one of these stations took a block in the newest tick
 abbrev pub is_delivering : PlanData → List Pair → List StationData → Bool
-is_delivering plan past stations = list_any (λ s. is_some (delivered_of plan past s)) stations
+is_delivering plan past stations = is_delivering_in (alone plan) past stations
 
 -- in how many ticks some terminal took a block
 unfoldable pub delivering : PlanData → List Pair → ℕ
@@ -34,23 +58,16 @@ delivering plan (shown ∷ past) =
 
 -- ---- which stations have an object
 
--- the first of these stations with the address, if it names a subsystem
-abbrev pub served_at : List StationData → ℕ → Option StationData
-served_at [] address = None
-served_at (s ∷ stations) address =
-    if s.terminal.address == address then (if is_some s.terminal.subsystem then Some s else None) else served_at stations address
-
--- the stations that name a subsystem, in order of address: the object at a place is behind the terminal of the station at that place
-unfoldable pub served : PlanData → List StationData
-served plan = filter_map (served_at plan.stations) (range_with_len 0 31)
-
--- for each station of the plan, in its order, the place of its object, if it names a subsystem. Each object is that of one station
-pub record ObjectsOf (plan : PlanData) (objects : List (Option ℕ)) : Type 0 where
-  pub all : length objects ≡ length plan.stations
-  pub there : (i p : ℕ) (s : StationData) → slice_get plan.stations i ≡ Some s → slice_get objects i ≡ Some (Some p) → slice_get (served plan) p ≡ Some s
-  pub whole : (p : ℕ) (s : StationData) → slice_get (served plan) p ≡ Some s → (i : ℕ) × (slice_get plan.stations i ≡ Some s) × (slice_get objects i ≡ Some
-      (Some p))
+-- for each station of the plan, in its order, the place of its object, if it has one. Each object is that of one station
+pub record ObjectsIn (w : Setting) (objects : List (Option ℕ)) : Type 0 where
+  pub all : length objects ≡ length w.plan.stations
+  pub there : (i p : ℕ) (s : StationData) → slice_get w.plan.stations i ≡ Some s → slice_get objects i ≡ Some (Some p) → slice_get w.served p ≡ Some s
+  pub whole : (p : ℕ) (s : StationData) → slice_get w.served p ≡ Some s →
+      (i : ℕ) × (slice_get w.plan.stations i ≡ Some s) × (slice_get objects i ≡ Some (Some p))
   pub apart : (i j p : ℕ) → slice_get objects i ≡ Some (Some p) → slice_get objects j ≡ Some (Some p) → i ≡ j
+
+abbrev pub ObjectsOf : PlanData → List (Option ℕ) → Type 0
+ObjectsOf plan objects = ObjectsIn (alone plan) objects
 
 -- ---- what the objects tell, and their room
 
@@ -63,15 +80,22 @@ TellsMore (Some old) more (Some now) = now ≡ old ++ more
 
 -- objects that told `before` at the start of the run tell in addition what their terminals took; and they have room for all that may come.
 -- What they tell and their room, in their order
-pub record Serves (plan : PlanData) (before : List (Option (List Delivery))) (past : List Pair) (told : List (Option (List Delivery)))
+pub record ServesIn (w : Setting) (before : List (Option (List Delivery))) (past : List Pair) (told : List (Option (List Delivery)))
     (spare : List ℕ) : Type 0 where
-  pub all : length told ≡ length (served plan)
-  pub all_before : length before ≡ length (served plan)
-  pub all_spare : length spare ≡ length (served plan)
-  pub tells : (p : ℕ) (s : StationData) (old now : Option (List Delivery)) → slice_get (served plan) p ≡ Some s → slice_get before p ≡ Some old →
-      slice_get told p ≡ Some now → TellsMore old (deliveries plan s past) now
-  pub room : (p : ℕ) (s : StationData) (n : ℕ) → slice_get (served plan) p ≡ Some s → slice_get spare p ≡ Some n →
-      most_deliveries plan + 1 ≤ n + length (deliveries plan s past)
+  pub all : length told ≡ length w.served
+  pub all_before : length before ≡ length w.served
+  pub all_spare : length spare ≡ length w.served
+  pub tells : (p : ℕ) (s : StationData) (old now : Option (List Delivery)) → slice_get w.served p ≡ Some s → slice_get before p ≡ Some old →
+      slice_get told p ≡ Some now → TellsMore old (deliveries_in w s past) now
+  pub room : (p : ℕ) (s : StationData) (n : ℕ) → slice_get w.served p ≡ Some s → slice_get spare p ≡ Some n →
+      most_deliveries w.plan + 1 ≤ n + length (deliveries_in w s past)
+
+abbrev pub Serves : PlanData → List (Option (List Delivery)) → List Pair → List (Option (List Delivery)) → List ℕ → Type 0
+Serves plan before past told spare = ServesIn (alone plan) before past told spare
+
+-- no terminal with an object took more blocks than there is room for
+abbrev pub AreFew : Setting → List Pair → Type 0
+AreFew w past = (p : ℕ) (s : StationData) → slice_get w.served p ≡ Some s → length (deliveries_in w s past) ≤ most_deliveries w.plan
 
 -- ---- one delivery
 

@@ -1,9 +1,14 @@
 pub mod Amounts
+pub mod Settings
 pub mod Deliveries
+pub mod Called
+pub mod Driven
 pub mod Parts
 pub mod BurstListers
 pub mod Monitors
 pub mod StationRows
+pub mod Joined
+pub mod Loading
 pub mod Terminals
 pub mod Stands
 pub mod Tables

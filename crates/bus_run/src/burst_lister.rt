@@ -1,20 +1,21 @@
 //! The bursts of both channels, tick by tick.
-ghost use Rattle.std.specs.Prelude.{◌≡◌, ◌<◌, ◌≤◌, ◌^◌, ℕ, List, [], ◌∷◌, length};
+ghost use Rattle.std.specs.Prelude.{◌≡◌, ◌<◌, ◌^◌, List, [], ◌∷◌, length};
 ghost use Rattle.bus_base.specs.declared.samples.Channel.TheVariants as channels;
 ghost use Rattle.bus_base.specs.declared.samples.Pair.{Pair};
 ghost use Rattle.bus_base.specs.declared.samples.Sample.{Sample};
-ghost use Rattle.bus_line.specs.Past.{quiet_ticks};
+ghost use Rattle.bus_line.specs.Cutting.{cut_now};
 ghost use Rattle.bus_line.specs.declared.cutter.TheConstants.{LAG};
+ghost use Rattle.bus_receiver.specs.Moments.{moment_of};
 ghost use Rattle.bus_run.specs.BurstListers.{EarStands, BurstListerStands, EndFits, after_cut, burst_told, burst_now_on, burst_on};
 
-use bus_base::{Channel, Pair, Sample, Tick};
+use bus_base::{Channel, Tick};
 use bus_formats::HeardBurst;
-use bus_line::{Cut, Cutter, LAG};
+use bus_line::{Cut, LAG};
+use bus_receiver::Moment;
 
 /// What is kept of the burst that runs on one channel.
 #[derive(Clone, Copy)]
 pub struct Ear {
-    cutter: Cutter,
     // how many of its whole slots have a valid word
     valid: u32,
 }
@@ -23,23 +24,22 @@ impl Ear {
     fn new() -> Ear
         ensures { EarStands LAG result [] }
     {
-        Ear {
-            cutter: Cutter::new(),
-            valid: 0,
-        }
+        Ear { valid: 0 }
     }
 
-    // Hears what the channel shows in this tick, and tells the burst whose end became known with it.
-    fn hear(&mut self, channel: Channel, tick: u64, sample: Sample) -> Option<HeardBurst>
-        requires { (past : List Sample) × EarStands LAG self.old past × (length past ≡ tick) × (tick < 2 ^ 32) }
-        ensures told { (past : List Sample) → EarStands LAG self.old past → length past ≡ tick → result ≡ burst_now_on LAG channel (sample ∷ past) }
-        ensures stands { (past : List Sample) → EarStands LAG self.old past → length past ≡ tick → EarStands LAG self.new (sample ∷ past) }
+    // Hears what became known of the channel in this tick, and tells the burst whose end that is.
+    fn hear(&mut self, channel: Channel, tick: u64, cut: Cut) -> Option<HeardBurst>
+        requires { (sample : Sample) × (past : List Sample) × EarStands LAG self.old past × (cut ≡ cut_now LAG (sample ∷ past)) × (length past ≡ tick)
+            × (tick < 2 ^ 32) }
+        ensures told { (sample : Sample) (past : List Sample) → EarStands LAG self.old past → cut ≡ cut_now LAG (sample ∷ past) → length past ≡ tick →
+            result ≡ burst_now_on LAG channel (sample ∷ past) }
+        ensures stands { (sample : Sample) (past : List Sample) → EarStands LAG self.old past → cut ≡ cut_now LAG (sample ∷ past) → length past ≡ tick →
+            EarStands LAG self.new (sample ∷ past) }
     {
-        let cut = self.cutter.hear(sample);
         self.follow(channel, tick, cut)
     }
 
-    // Follows what the cutter told of this tick.
+    // Follows what became known in this tick.
     fn follow(&mut self, channel: Channel, tick: u64, cut: Cut) -> Option<HeardBurst>
         requires { EndFits LAG tick cut }
         ensures after { self.new ≡ after_cut cut self.old }
@@ -68,7 +68,7 @@ impl Ear {
     }
 }
 
-/// Lists the bursts of both channels. It keeps the samples of the slots that run, and takes no memory.
+/// Lists the bursts of both channels. It takes no memory.
 #[derive(Drop)]
 pub struct BurstLister {
     a: Ear,
@@ -86,16 +86,18 @@ impl BurstLister {
         }
     }
 
-    /// Hears what both channels show in this tick. The bursts whose end becomes known with it, the one on channel A first (MIL-STD-1553B
+    /// Hears the newest tick by what a receiver tells of it. The bursts whose end becomes known with it, the one on channel A first (MIL-STD-1553B
     /// 4.4.4).
-    pub fn hear(&mut self, tick: u64, shown: Pair) -> [Option<HeardBurst>; 2]
-        requires { (past : List Pair) × BurstListerStands LAG self.old past × (length past ≡ tick) × (tick < 2 ^ 32) }
-        ensures bursts { (past : List Pair) → BurstListerStands LAG self.old past → length past ≡ tick →
-            result ≡ burst_on LAG channels.A (shown ∷ past) ∷ burst_on LAG channels.B (shown ∷ past) ∷ [] }
-        ensures stands { (past : List Pair) → BurstListerStands LAG self.old past → length past ≡ tick → BurstListerStands LAG self.new (shown ∷ past) }
+    pub fn hear(&mut self, moment: &Moment) -> [Option<HeardBurst>; 2]
+        requires { (past : List Pair) × BurstListerStands LAG self.old past × (moment.now ≡ moment_of LAG moment.now.shown past) × (length past < 2 ^ 32) }
+        ensures bursts { (past : List Pair) → BurstListerStands LAG self.old past → moment.now ≡ moment_of LAG moment.now.shown past →
+            result ≡ burst_on LAG channels.A (moment.now.shown ∷ past) ∷ burst_on LAG channels.B (moment.now.shown ∷ past) ∷ [] }
+        ensures stands { (past : List Pair) → BurstListerStands LAG self.old past → moment.now ≡ moment_of LAG moment.now.shown past →
+            BurstListerStands LAG self.new (moment.now.shown ∷ past) }
     {
-        let a = self.a.hear(Channel::A, tick, shown.a);
-        let b = self.b.hear(Channel::B, tick, shown.b);
+        let tick = moment.tick();
+        let a = self.a.hear(Channel::A, tick.0, moment.cut(Channel::A));
+        let b = self.b.hear(Channel::B, tick.0, moment.cut(Channel::B));
         [a, b]
     }
 }

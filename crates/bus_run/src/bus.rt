@@ -114,6 +114,7 @@ impl Bus {
     // Whether nothing is left to do and both channels have been quiet long enough.
     #[tactic(auto, unfolding(crate::specs::Stands::BusStands))]
     fn is_over(&self) -> bool
+        requires { (plan : PlanData) × (t : ℕ) × BusStands plan t self.now }
         ensures { (plan : PlanData) (t : ℕ) → BusStands plan t self.now → result ≡ worlds.run_is_over LAG plan [] [] [] t }
     {
         self.monitor.quiet() >= ENDING_QUIET && self.row.are_done()
@@ -130,9 +131,9 @@ impl Bus {
             Serves plan before (world LAG plan [] [] [] (suc t)) (map (λ b. told b) subsystems.new.items) (map (λ b. spare b) subsystems.new.items) }
         ensures ticks { self.new.ticks ≡ self.old.ticks + 1 }
     {
-        let shown = self.wire.show(self.row.stations());
-        self.row.hear(Tick(self.ticks), shown, subsystems);
-        self.monitor.hear(self.ticks, shown);
+        let shown = self.wire.show(self.row.stations(), self.row.places());
+        let moment = self.row.hear(Tick(self.ticks), shown, subsystems);
+        self.monitor.hear(&moment);
         self.ticks += 1;
         shown
     }

@@ -1,14 +1,21 @@
 //! What the stations drive in each tick, and what the wire shows of it.
-ghost use Rattle.std.specs.Prelude.{◌≡◌, ◌≤◌, ◌<◌, ◌^◌, ◌&&◌, ◌||◌, ◌+◌, if◌then◌else◌, nat_lt, ℕ, List, [], ◌∷◌, length};
+ghost use Rattle.std.specs.Prelude.{◌≡◌, ◌≤◌, ◌<◌, ◌^◌, ◌&&◌, ◌||◌, ◌+◌, if◌then◌else◌, nat_lt, ℕ, true, List, [], ◌∷◌, length};
 ghost use Rattle.bus_base.specs.declared.samples.Channel.TheVariants.{A, B};
 ghost use Rattle.bus_base.specs.declared.samples.Drive.{Drive};
 ghost use Rattle.bus_base.specs.declared.samples.Pair.{Pair};
 ghost use Rattle.bus_line.specs.declared.cutter.TheConstants.{LAG};
-ghost use Rattle.bus_formats.specs.Plans.{PlanData};
+ghost use Rattle.bus_formats.specs.Plans.{StationData, PlanData};
+ghost use Rattle.bus_model.specs.Starts.{starts};
 ghost use Rattle.bus_model.specs.Wire as spec;
-ghost use Rattle.bus_model.specs.World.{drives_after};
-ghost use Rattle.bus_run.specs.Parts.{StationsStand, DrivenWireStands};
+ghost use Rattle.bus_model.specs.World.{is_present, drive_after, drives_after};
+ghost use Rattle.bus_station.specs.StationStands.{StationKeeps};
+ghost use Rattle.bus_run.specs.Called.{AreCalled};
+ghost use Rattle.bus_run.specs.Driven.{AreDriven, AreSilentBut};
+ghost use Rattle.bus_wire.specs.Places.{AreRising};
+ghost use Rattle.bus_run.specs.Parts.{StationsStandIn, DrivenWireStands, presence};
+ghost use Rattle.bus_run.specs.Settings.{Setting};
 
+use crate::called::{drive_called, silence};
 use bus_base::{Drive, Pair};
 use bus_formats::Fault;
 use bus_station::Station;
@@ -18,7 +25,7 @@ use bus_wire::Wire;
 #[derive(Drop)]
 pub struct DrivenWire {
     wire: Wire,
-    // what each station drives in the newest tick, in the order of the plan
+    // for each station, in the order of the plan, that it drives nothing, but while a tick is shown what it drives in it
     drives: Vec<Drive>,
     clashes: u64,
 }
@@ -26,7 +33,8 @@ pub struct DrivenWire {
 impl DrivenWire {
     /// A wire with these faults on which nothing was driven yet, and a place for the drive of each station.
     pub fn new(faults: Vec<Fault>, drives: Vec<Drive>) -> DrivenWire
-        requires { length drives.items ≤ 32 }
+        requires few { length drives.items ≤ 32 }
+        requires silent { AreSilentBut [] drives.items }
         ensures { (plan : PlanData) → plan.faults ≡ faults.items → length plan.stations ≡ length drives.items → DrivenWireStands plan result [] }
     {
         DrivenWire {
@@ -36,30 +44,47 @@ impl DrivenWire {
         }
     }
 
-    /// What both channels show in the tick to come.
-    pub fn show(&mut self, stations: &[Station]) -> Pair
-        requires { (plan : PlanData) × (past : List Pair) × (driven : List (List Drive)) × StationsStand plan stations.now past
-            × DrivenWireStands plan self.old driven × (length driven < 2 ^ 60) }
-        ensures pair { (plan : PlanData) (past : List Pair) (driven : List (List Drive)) → StationsStand plan stations.now past →
-            DrivenWireStands plan self.old driven → result ≡ spec.shown plan.faults (drives_after LAG plan [] [] [] past ∷ driven) }
-        ensures stands { (plan : PlanData) (past : List Pair) (driven : List (List Drive)) → StationsStand plan stations.now past →
-            DrivenWireStands plan self.old driven → DrivenWireStands plan self.new (drives_after LAG plan [] [] [] past ∷ driven) }
+    /// What both channels show in the tick to come, where the stations at these places alone may drive: all others wait or are absent.
+    #[inline(always)]
+    pub fn show(&mut self, stations: &[Station], places: &[u8]) -> Pair
+        requires { (w : Setting) × (past : List Pair) × (driven : List (List Drive)) × StationsStandIn w stations.now past
+            × AreCalled (presence w) stations.now places.now × DrivenWireStands w.plan self.old driven × (length driven < 2 ^ 60) }
+        ensures pair { (w : Setting) (past : List Pair) (driven : List (List Drive)) → StationsStandIn w stations.now past →
+            AreCalled (presence w) stations.now places.now → DrivenWireStands w.plan self.old driven →
+            result ≡ spec.shown w.plan.faults (drives_after LAG w.plan w.loads w.outside w.absent past ∷ driven) }
+        ensures stands { (w : Setting) (past : List Pair) (driven : List (List Drive)) → StationsStandIn w stations.now past →
+            AreCalled (presence w) stations.now places.now → DrivenWireStands w.plan self.old driven →
+            DrivenWireStands w.plan self.new (drives_after LAG w.plan w.loads w.outside w.absent past ∷ driven) }
     {
-        self.drive(stations);
-        let shown = self.wire.show(&self.drives);
+        self.drive(stations, places);
+        let shown = self.wire.show_among(&self.drives, places);
+        self.silence(places);
         self.clashes = clashes_after(self.clashes, shown.drivers);
         shown.pair
     }
 
-    // Keeps what each station drives in the tick to come.
-    fn drive(&mut self, stations: &[Station])
-        requires { length self.old.drives.items ≡ length stations.now }
-        ensures drives { (plan : PlanData) (past : List Pair) → StationsStand plan stations.now past →
-            self.new.drives.items ≡ drives_after LAG plan [] [] [] past }
+    // Keeps what the stations at these places drive in the tick to come.
+    fn drive(&mut self, stations: &[Station], places: &[u8])
+        requires all { length self.old.drives.items ≡ length stations.now }
+        requires rising { AreRising 0 (length stations.now) places.now }
+        requires silent { AreSilentBut [] self.old.drives.items }
+        ensures drives { AreDriven stations.now places.now self.new.drives.items }
         ensures wire { self.new.wire ≡ self.old.wire }
         ensures clashes { self.new.clashes ≡ self.old.clashes }
     {
-        drive_all(stations, &mut self.drives);
+        drive_called(stations, places, &mut self.drives);
+    }
+
+    // That was shown.
+    fn silence(&mut self, places: &[u8])
+        requires rising { AreRising 0 (length self.old.drives.items) places.now }
+        requires silent { AreSilentBut places.now self.old.drives.items }
+        ensures silent { AreSilentBut [] self.new.drives.items }
+        ensures all { length self.new.drives.items ≡ length self.old.drives.items }
+        ensures wire { self.new.wire ≡ self.old.wire }
+        ensures clashes { self.new.clashes ≡ self.old.clashes }
+    {
+        silence(places, &mut self.drives);
     }
 
     /// In how many ticks two stations or more drove one channel.
@@ -67,16 +92,6 @@ impl DrivenWire {
         ensures { result ≡ self.now.clashes }
     {
         self.clashes
-    }
-}
-
-// What each station drives in the tick to come, in the order of the plan.
-fn drive_all(stations: &[Station], drives: &mut [Drive])
-    requires { length drives.old ≡ length stations.now }
-    ensures { (plan : PlanData) (past : List Pair) → StationsStand plan stations.now past → drives.new ≡ drives_after LAG plan [] [] [] past }
-{
-    for (place, station) in stations.iter().enumerate() {
-        drives[place] = station.drive();
     }
 }
 

@@ -14,23 +14,30 @@ pub mod alone;
 pub mod amounts;
 pub mod burst_lister;
 pub mod bus;
+pub mod called;
 pub mod copies;
 pub mod driven_wire;
 pub mod ends;
 pub mod finished;
+pub mod hearing;
+pub mod joined;
 pub mod kept;
 pub mod laws;
+pub mod loading;
 pub mod monitor;
 pub mod objects;
 pub mod prepare;
 pub mod room;
 pub mod station_row;
+pub mod taken;
 
 pub use alone::run_without_subsystems;
 pub use bus::Bus;
 pub use finished::FinishedBus;
+pub use joined::JoinedBus;
 pub use laws::{
     a_delivery_is_for_data, all_that_a_run_brings_has_room, each_object_is_of_its_station,
     no_objects_without_subsystems, sixty_two_objects_are_enough,
     terminals_take_what_the_table_delivers,
 };
+pub use taken::TakenBlock;

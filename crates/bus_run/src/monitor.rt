@@ -2,23 +2,23 @@
 ghost use Rattle.std.specs.Prelude.{◌≡◌, ◌≤◌, ◌<◌, ◌^◌, ◌+◌, suc, ℕ, List, [], ◌∷◌, ◌++◌, length, option_to_list, vec_len, vec_capacity, if◌then◌else◌};
 ghost use Rattle.bus_base.specs.declared.samples.Channel.TheVariants.{A, B};
 ghost use Rattle.bus_base.specs.declared.samples.Pair.{Pair};
-ghost use Rattle.bus_line.specs.Channels.{both_quiet};
 ghost use Rattle.bus_line.specs.declared.cutter.TheConstants.{LAG};
+ghost use Rattle.bus_monitor.specs.Listers.{heard_in};
 ghost use Rattle.bus_monitor.specs.Progress.{heard_now};
-ghost use Rattle.bus_monitor.specs.Listers.{WordListerStands};
+ghost use Rattle.bus_receiver.specs.Moments.{moment_of};
 ghost use Rattle.bus_run.specs.BurstListers.{BurstListerStands, burst_on};
-ghost use Rattle.bus_run.specs.Monitors.{MonitorStands};
+ghost use Rattle.bus_run.specs.Monitors.{MonitorStands, ListsStand};
 
 use crate::burst_lister::BurstLister;
 use crate::room::push_found;
-use bus_base::{Pair, Sample};
+use bus_base::{Channel, Tick};
 use bus_formats::{Heard, HeardBurst};
-use bus_monitor::WordLister;
+use bus_line::Cut;
+use bus_receiver::Moment;
 
 /// A monitor (MIL-STD-1553B 4.4.4): the valid words and the bursts of both channels so far, and for how many ticks both have been quiet.
 #[derive(Drop)]
 pub struct Monitor {
-    word_lister: WordLister,
     burst_lister: BurstLister,
     words: Vec<Heard>,
     bursts: Vec<HeardBurst>,
@@ -34,7 +34,6 @@ impl Monitor {
             MonitorStands most_words most_bursts result [] }
     {
         Monitor {
-            word_lister: WordLister::new(),
             burst_lister: BurstLister::new(),
             words,
             bursts,
@@ -42,49 +41,69 @@ impl Monitor {
         }
     }
 
-    /// Hears what both channels show in the tick to come, which has this number. There is room for what it may find.
-    pub fn hear(&mut self, tick: u64, shown: Pair)
+    /// Hears the newest tick by what a receiver tells of it. There is room for what it may find.
+    #[inline(always)]
+    pub fn hear(&mut self, moment: &Moment)
         requires { (most_words : ℕ) × (most_bursts : ℕ) × (past : List Pair) × MonitorStands most_words most_bursts self.old past
-            × (length past ≡ tick) × (tick < 2 ^ 32) × (vec_len self.old.words ≤ most_words) × (vec_len self.old.bursts ≤ most_bursts) }
-        ensures { (most_words most_bursts : ℕ) (past : List Pair) → MonitorStands most_words most_bursts self.old past → length past ≡ tick →
-            MonitorStands most_words most_bursts self.new (shown ∷ past) }
+            × (moment.now ≡ moment_of LAG moment.now.shown past) × (length past < 2 ^ 32) × (vec_len self.old.words ≤ most_words)
+            × (vec_len self.old.bursts ≤ most_bursts) }
+        ensures { (most_words most_bursts : ℕ) (past : List Pair) → MonitorStands most_words most_bursts self.old past →
+            moment.now ≡ moment_of LAG moment.now.shown past → MonitorStands most_words most_bursts self.new (moment.now.shown ∷ past) }
     {
-        self.hear_words(shown);
-        self.hear_bursts(tick, shown);
-        self.quiet = quiet_after(self.quiet, shown);
+        self.quiet = moment.quiet();
+        if !moment.cuts().are_nothing() {
+            self.list(moment);
+        }
     }
 
-    fn hear_words(&mut self, shown: Pair)
-        requires stands { (past : List Pair) × WordListerStands self.old.word_lister past × (length past < 2 ^ 60) }
+    // Keeps the words and the bursts that ended.
+    fn list(&mut self, moment: &Moment)
+        requires { (most_words : ℕ) × (most_bursts : ℕ) × (past : List Pair) × ListsStand most_words most_bursts self.old past
+            × (moment.now ≡ moment_of LAG moment.now.shown past) × (length past < 2 ^ 32) × (vec_len self.old.words ≤ most_words)
+            × (vec_len self.old.bursts ≤ most_bursts) }
+        ensures stands { (most_words most_bursts : ℕ) (past : List Pair) → ListsStand most_words most_bursts self.old past →
+            moment.now ≡ moment_of LAG moment.now.shown past → ListsStand most_words most_bursts self.new (moment.now.shown ∷ past) }
+        ensures quiet { self.new.quiet ≡ self.old.quiet }
+    {
+        self.list_words(moment);
+        self.list_bursts(moment);
+    }
+
+    fn list_words(&mut self, moment: &Moment)
         requires room { vec_len self.old.words + 2 ≤ vec_capacity self.old.words }
-        ensures stands { (past : List Pair) → WordListerStands self.old.word_lister past → WordListerStands self.new.word_lister (shown ∷ past) }
-        ensures words { (past : List Pair) → WordListerStands self.old.word_lister past →
+        ensures words { (past : List Pair) → moment.now ≡ moment_of LAG moment.now.shown past →
             self.new.words.items
-            ≡ (self.old.words.items ++ option_to_list (heard_now LAG A (shown ∷ past))) ++ option_to_list (heard_now LAG B (shown ∷ past)) }
+            ≡ (self.old.words.items ++ option_to_list (heard_now LAG A (moment.now.shown ∷ past))) ++ option_to_list (heard_now LAG B (moment.now.shown ∷ past)) }
         ensures room { vec_capacity self.new.words ≡ vec_capacity self.old.words }
         ensures burst_lister { self.new.burst_lister ≡ self.old.burst_lister }
         ensures bursts { self.new.bursts ≡ self.old.bursts }
         ensures quiet { self.new.quiet ≡ self.old.quiet }
     {
-        let [a, b] = self.word_lister.hear(shown);
-        push_found(&mut self.words, a);
-        push_found(&mut self.words, b);
+        let tick = moment.tick();
+        push_found(
+            &mut self.words,
+            word_in(moment.cut(Channel::A), Channel::A, tick.0),
+        );
+        push_found(
+            &mut self.words,
+            word_in(moment.cut(Channel::B), Channel::B, tick.0),
+        );
     }
 
-    fn hear_bursts(&mut self, tick: u64, shown: Pair)
-        requires stands { (past : List Pair) × BurstListerStands LAG self.old.burst_lister past × (length past ≡ tick) × (tick < 2 ^ 32) }
+    fn list_bursts(&mut self, moment: &Moment)
+        requires stands { (past : List Pair) × BurstListerStands LAG self.old.burst_lister past × (moment.now ≡ moment_of LAG moment.now.shown past)
+            × (length past < 2 ^ 32) }
         requires room { vec_len self.old.bursts + 2 ≤ vec_capacity self.old.bursts }
-        ensures stands { (past : List Pair) → BurstListerStands LAG self.old.burst_lister past → length past ≡ tick →
-            BurstListerStands LAG self.new.burst_lister (shown ∷ past) }
-        ensures bursts { (past : List Pair) → BurstListerStands LAG self.old.burst_lister past → length past ≡ tick →
+        ensures stands { (past : List Pair) → BurstListerStands LAG self.old.burst_lister past → moment.now ≡ moment_of LAG moment.now.shown past →
+            BurstListerStands LAG self.new.burst_lister (moment.now.shown ∷ past) }
+        ensures bursts { (past : List Pair) → BurstListerStands LAG self.old.burst_lister past → moment.now ≡ moment_of LAG moment.now.shown past →
             self.new.bursts.items
-            ≡ (self.old.bursts.items ++ option_to_list (burst_on LAG A (shown ∷ past))) ++ option_to_list (burst_on LAG B (shown ∷ past)) }
+            ≡ (self.old.bursts.items ++ option_to_list (burst_on LAG A (moment.now.shown ∷ past))) ++ option_to_list (burst_on LAG B (moment.now.shown ∷ past)) }
         ensures room { vec_capacity self.new.bursts ≡ vec_capacity self.old.bursts }
-        ensures word_lister { self.new.word_lister ≡ self.old.word_lister }
         ensures words { self.new.words ≡ self.old.words }
         ensures quiet { self.new.quiet ≡ self.old.quiet }
     {
-        let [a, b] = self.burst_lister.hear(tick, shown);
+        let [a, b] = self.burst_lister.hear(moment);
         push_found(&mut self.bursts, a);
         push_found(&mut self.bursts, b);
     }
@@ -119,13 +138,19 @@ impl Monitor {
     }
 }
 
-// The ticks in a row in which both channels were quiet, with one tick more.
-fn quiet_after(quiet: u64, shown: Pair) -> u64
-    requires { quiet < 2 ^ 60 }
-    ensures { result ≡ (if both_quiet shown then suc quiet else 0) }
+// The valid word that ends in this tick, which is the last of its forty.
+fn word_in(cut: Cut, channel: Channel, tick: u64) -> Option<Heard>
+    ensures { result ≡ heard_in cut channel tick }
 {
-    match (shown.a, shown.b) {
-        (Sample::Quiet, Sample::Quiet) => quiet + 1,
-        _ => 0,
+    match cut {
+        Cut::Slot {
+            word: Some(word),
+            ..
+        } => Some(Heard {
+            tick: Tick(tick.saturating_sub(39)),
+            channel,
+            word,
+        }),
+        _ => None,
     }
 }

@@ -1,10 +1,13 @@
 //! What is made before the first tick.
-ghost use Rattle.std.specs.Prelude.{◌≡◌, ◌≤◌, ◌<◌, ◌+◌, ◌==◌, ◌*◌, ℕ, List, [], length, map, count_by, is_some, All, IfOk};
+ghost use Rattle.std.specs.Prelude.{◌≡◌, ◌≤◌, ◌<◌, ◌+◌, ◌==◌, ◌*◌, ℕ, List, [], length, map, count_by, is_some, true, replicate, None, All, IfOk};
 ghost use Rattle.bus_formats.specs.Plans.{PlanData};
 ghost use Rattle.bus_formats.specs.Accepted.{IsAccepted};
 ghost use Rattle.bus_station.specs.Fits.{StationFits};
 ghost use Rattle.bus_run.specs.Kept.{named_in, object_at};
-ghost use Rattle.bus_run.specs.StationRows.{RowStands};
+ghost use Rattle.bus_run.specs.Deliveries.{ObjectsIn};
+ghost use Rattle.bus_run.specs.Driven.{AreSilentBut};
+ghost use Rattle.bus_run.specs.Settings.{Setting};
+ghost use Rattle.bus_run.specs.StationRows.{RowStands, RowKeeps};
 ghost use Rattle.bus_run.specs.Monitors.{MonitorStands};
 ghost use Rattle.bus_run.specs.Parts.{StationsBegin, DrivenWireStands};
 ghost use Rattle.bus_run.specs.Terminals.{EndsStand};
@@ -56,9 +59,9 @@ pub fn addresses_of(alloc: Global, stations: &[StationPlan]) -> Result<Vec<u8>, 
     Ok(addresses)
 }
 
-/// A place for the drive of each of so many stations.
+/// A place for the drive of each of so many stations, which are silent.
 pub fn places_for(alloc: Global, count: usize) -> Result<Vec<Drive>, AllocError>
-    ensures { IfOk result (λ places. length places.items ≡ count) }
+    ensures { IfOk result (λ places. (length places.items ≡ count) × AreSilentBut [] places.items) }
 {
     let mut places = Vec::new(alloc);
     'places: while places.len() < count {
@@ -107,6 +110,28 @@ fn count_named(named: &[Option<SubsystemKind>]) -> usize
     count
 }
 
+/// So many stations that are all present.
+pub fn all_present(alloc: Global, count: usize) -> Result<Vec<bool>, AllocError>
+    ensures { IfOk result (λ present. present.items ≡ replicate count true) }
+{
+    let mut present = Vec::new(alloc);
+    for _ in 0..count {
+        present.push(true)?;
+    }
+    Ok(present)
+}
+
+/// No object for so many stations.
+pub fn no_objects(alloc: Global, count: usize) -> Result<Vec<Option<usize>>, AllocError>
+    ensures { IfOk result (λ objects. objects.items ≡ replicate count None) }
+{
+    let mut objects = Vec::new(alloc);
+    for _ in 0..count {
+        objects.push(None)?;
+    }
+    Ok(objects)
+}
+
 /// The stations before the first tick, with room for so many attempts and for one more of each. The addresses 0 to 30 name these subsystems.
 pub fn row_of(
     alloc: Global,
@@ -120,10 +145,28 @@ pub fn row_of(
     requires most { most ≤ 0x8000_0000 }
     ensures { IfOk result (λ row. RowStands most plan.now row []) }
 {
-    let stations = stations_of(alloc, plan)?;
-    let attempts = Vec::with_capacity(alloc, most as usize + 32)?;
     let objects = objects_of(alloc, plan.stations.as_slice(), named)?;
-    Ok(StationRow::new(stations, attempts, objects))
+    row_with(alloc, plan, objects, most)
+}
+
+/// The stations before the first tick, with these places of their objects.
+pub fn row_with(
+    alloc: Global,
+    plan: &Plan,
+    objects: Vec<Option<usize>>,
+    most: u64,
+) -> Result<StationRow, AllocError>
+    requires few { length plan.now.stations ≤ 32 }
+    requires fit { All StationFits plan.now.stations }
+    requires most { most ≤ 0x8000_0000 }
+    ensures { IfOk result (λ row. (w : Setting) → w.plan ≡ plan.now → w.loads ≡ [] → w.outside ≡ [] → w.absent ≡ [] → ObjectsIn w objects.items →
+        RowKeeps most w [] 0 row []) }
+{
+    let stations = stations_of(alloc, plan)?;
+    let present = all_present(alloc, plan.stations.len())?;
+    let attempts = Vec::with_capacity(alloc, most as usize + 32)?;
+    let taken = Vec::with_capacity(alloc, 32)?;
+    Ok(StationRow::new(stations, present, attempts, taken, objects))
 }
 
 /// The wire with the faults of a plan, on which nothing was driven yet.

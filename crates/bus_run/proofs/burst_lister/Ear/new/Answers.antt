@@ -7,7 +7,4 @@ use Rattle.bus_line.proofs.CollectLaws.{running-off}
 use Rattle.bus_run.proofs.burst_lister.Ear.new.Goals as goal
 
 pub returns : goal.returns
-returns c = record {
-  cutter = c.new.ensures.stands 0;
-  valid_is = ap (count_by is_some) (sym (running-off LAG (quiet_ticks 0) (rests-alone LAG 0)));
-}
+returns c = record { valid_is = ap (count_by is_some) (sym (running-off LAG (quiet_ticks 0) (rests-alone LAG 0))) }

@@ -26,8 +26,8 @@ returns c plan st =
     let past = world LAG plan [] [] [] t in
     let stations : StationsStand plan c.deref.result.now past =
     subst (λ ss. StationsStand plan ss past) (sym (c.deref.ensures.value ∙ c.into_parts-stations.ensures.stations)) st.row.stations in
-    let found = log-is plan t _ (c.into_parts-stations.ensures.attempts ∙ st.row.attempts_are) (c.into_lists-words.ensures.words ∙ st.monitor.words_are)
-    (c.into_lists-words.ensures.bursts ∙ st.monitor.bursts_are) (c.gather-terminals.ensures.terminals plan past st.ends stations)
+    let found = log-is plan t _ (c.into_parts-stations.ensures.attempts ∙ st.row.attempts_are) (c.into_lists-words.ensures.words ∙ st.monitor.lists.words_are)
+    (c.into_lists-words.ensures.bursts ∙ st.monitor.lists.bursts_are) (c.gather-terminals.ensures.terminals plan past st.ends stations)
     (c.gather-terminals.ensures.block_ends plan past st.ends stations) (ap (λ n. record { 0 = n }) st.ticks_are)
     (c.clashes-clashes.ensures ∙ st.wire.clashes_are) in
     record {

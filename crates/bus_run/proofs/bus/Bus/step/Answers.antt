@@ -8,7 +8,13 @@ use Rattle.bus_run.specs.Parts.{StationsStand, DrivenWireStands}
 use Rattle.bus_run.specs.StationRows.{RowStands}
 use Rattle.bus_run.specs.Monitors.{MonitorStands}
 use Rattle.bus_run.specs.Stands.{BusStands}
-use Rattle.bus_run.proofs.DeliveryLaws.{serves-moved}
+use Rattle.bus_model.specs.WorldLog.{attempts}
+use Rattle.bus_run.specs.Deliveries.{delivering}
+use Rattle.bus_run.specs.Settings.{alone}
+use Rattle.bus_run.proofs.DeliveryLaws.{serves-moved, alone-few, row-next}
+use Rattle.bus_receiver.specs.declared.receiver.Moment.{Moment}
+use Rattle.bus_run.proofs.CalledLaws.{called-named}
+use Rattle.bus_run.proofs.MonitorLaws.{own-moment}
 use Rattle.bus_run.proofs.BusLaws.{world-next, driven-next, world-length, driven-length}
 use Rattle.bus_run.proofs.TableRun.{goes-on}
 use Rattle.bus_run.proofs.bus.Bus.step.Goals as goal
@@ -19,12 +25,36 @@ show-shown-requires g c =
     let (plan, t, before, st, on, serves) = c.requires in
     let small = (goes-on plan st.accepted t st.within).small in
     let ticks = driven-length plan t in (
-      plan,
+      alone plan,
       world LAG plan [] [] [] t,
       (trace LAG plan [] [] [] t).driven,
       subst (λ ss. StationsStand plan ss (world LAG plan [] [] [] t)) (sym c.stations.ensures) st.row.stations,
+      called-named _ _ _ _ _ _ st.row.present_are c.stations.ensures c.places.ensures st.row.calls.called,
       st.wire,
       omega (arith, small, ticks),
+    )
+
+pub hear-moment-requires : goal.hear-moment-requires
+unfolding BusStands
+hear-moment-requires g c =
+    let (plan, t, before, st, on, serves) = c.requires in
+    let going = goes-on plan st.accepted t st.within in
+    let small = going.small in
+    let ticks = st.ticks_are in
+    let left = going.attempts_left in
+    let are = ap length st.row.attempts_are in (
+      most_attempts plan,
+      alone plan,
+      attempts LAG plan [] [] [] (world LAG plan [] [] [] t),
+      delivering plan (world LAG plan [] [] [] t),
+      world LAG plan [] [] [] t,
+      before,
+      st.row,
+      serves,
+      world-length plan t ∙ sym st.ticks_are,
+      omega (arith, small, ticks),
+      omega (arith, left, are),
+      alone-few plan _ (world LAG plan [] [] [] t) st.row.objects going.deliveries_left,
     )
 
 pub hear-requires : goal.hear-requires
@@ -34,37 +64,17 @@ hear-requires g c =
     let going = goes-on plan st.accepted t st.within in
     let small = going.small in
     let ticks = st.ticks_are in
-    let left = going.attempts_left in
-    let are = ap length st.row.attempts_are in (
-      most_attempts plan,
-      plan,
-      world LAG plan [] [] [] t,
-      before,
-      st.row,
-      serves,
-      world-length plan t ∙ sym st.ticks_are,
-      omega (arith, small, ticks),
-      omega (arith, left, are),
-      going.deliveries_left,
-    )
-
-pub hear-requires-2 : goal.hear-requires-2
-unfolding BusStands
-hear-requires-2 g c =
-    let (plan, t, before, st, on, serves) = c.requires in
-    let going = goes-on plan st.accepted t st.within in
-    let small = going.small in
-    let ticks = st.ticks_are in
     let words = going.words_left in
     let bursts = going.bursts_left in
-    let words-are = ap length st.monitor.words_are in
-    let bursts-are = ap length st.monitor.bursts_are in (
+    let words-are = ap length st.monitor.lists.words_are in
+    let bursts-are = ap length st.monitor.lists.bursts_are in (
       most_words plan,
       most_bursts plan,
       world LAG plan [] [] [] t,
       st.monitor,
-      world-length plan t ∙ sym st.ticks_are,
-      omega (arith, small, ticks),
+      own-moment LAG c.hear-moment.result c.show-shown.result (world LAG plan [] [] [] t)
+          (c.hear-moment.ensures.moment (most_attempts plan) (alone plan) _ _ (world LAG plan [] [] [] t) st.row),
+      (let here = world-length plan t in omega (arith, small, here)),
       omega (arith, words, words-are),
       omega (arith, bursts, bursts-are),
     )
@@ -82,7 +92,8 @@ unfolding BusStands
 returns-clause-shown g c plan t st on =
     let stations : StationsStand plan c.stations.result.now (world LAG plan [] [] [] t) =
     subst (λ ss. StationsStand plan ss (world LAG plan [] [] [] t)) (sym c.stations.ensures) st.row.stations in
-    c.show-shown.ensures.pair plan (world LAG plan [] [] [] t) (trace LAG plan [] [] [] t).driven stations st.wire
+    c.show-shown.ensures.pair (alone plan) (world LAG plan [] [] [] t) (trace LAG plan [] [] [] t).driven stations
+    (called-named _ _ _ _ _ _ st.row.present_are c.stations.ensures c.places.ensures st.row.calls.called) st.wire
     ∙ ap (λ ds. shown plan.faults ds) (sym (driven-next plan t))
 
 pub returns-clause-stands : goal.returns-clause-stands
@@ -92,17 +103,23 @@ returns-clause-stands g c plan t st on =
     let stations : StationsStand plan c.stations.result.now past = subst (λ ss. StationsStand plan ss past) (sym c.stations.ensures) st.row.stations in
     let here : length past ≡ c.args.self.now.ticks = world-length plan t ∙ sym st.ticks_are in
     let next : c.show-shown.result ∷ past ≡ world LAG plan [] [] [] (suc t) =
-    ap (λ p. p ∷ past) (c.show-shown.ensures.pair plan past (trace LAG plan [] [] [] t).driven stations st.wire ∙ ap (λ ds. shown plan.faults ds) (sym
+    ap (λ p. p ∷ past) (c.show-shown.ensures.pair (alone plan) past (trace LAG plan [] [] [] t).driven stations
+    (called-named _ _ _ _ _ _ st.row.present_are c.stations.ensures c.places.ensures st.row.calls.called) st.wire ∙ ap (λ ds. shown plan.faults ds) (sym
     (driven-next plan t)))
     ∙ sym (world-next plan t) in
+    let moment = c.hear-moment.ensures.moment (most_attempts plan) (alone plan) _ _ past st.row in
     record {
       accepted = st.accepted;
       within = omega (arith, on);
-      row = subst (λ p. RowStands (most_attempts plan) plan c.hear.new.self p) next (c.hear.ensures.stands (most_attempts plan) plan past st.row here);
+      row = subst (λ p. RowStands (most_attempts plan) plan c.hear-moment.new.self p) next
+          (row-next (most_attempts plan) plan c.hear-moment.new.self c.show-shown.result past
+          (c.hear-moment.ensures.stands (most_attempts plan) (alone plan) _ _ past st.row here));
       wire = subst (λ ds. DrivenWireStands plan c.show-shown.new.self ds) (sym (driven-next plan t))
-          (c.show-shown.ensures.stands plan past (trace LAG plan [] [] [] t).driven stations st.wire);
-      monitor = subst (λ p. MonitorStands (most_words plan) (most_bursts plan) c.hear-2.new.self p) next
-          (c.hear-2.ensures (most_words plan) (most_bursts plan) past st.monitor here);
+          (c.show-shown.ensures.stands (alone plan) past (trace LAG plan [] [] [] t).driven stations
+          (called-named _ _ _ _ _ _ st.row.present_are c.stations.ensures c.places.ensures st.row.calls.called) st.wire);
+      monitor = subst (λ p. MonitorStands (most_words plan) (most_bursts plan) c.hear.new.self p)
+          (ap (λ (m : Moment). m.shown ∷ past) moment ∙ next)
+          (c.hear.ensures (most_words plan) (most_bursts plan) past st.monitor (own-moment LAG c.hear-moment.result c.show-shown.result past moment));
       ends = st.ends;
       ticks_are = add-one c.args.self.now.ticks ∙ ap suc st.ticks_are;
     }
@@ -114,7 +131,8 @@ returns-clause-serves g c plan t before st on serves =
     let stations : StationsStand plan c.stations.result.now past = subst (λ ss. StationsStand plan ss past) (sym c.stations.ensures) st.row.stations in
     let here : length past ≡ c.args.self.now.ticks = world-length plan t ∙ sym st.ticks_are in
     let next : c.show-shown.result ∷ past ≡ world LAG plan [] [] [] (suc t) =
-    ap (λ p. p ∷ past) (c.show-shown.ensures.pair plan past (trace LAG plan [] [] [] t).driven stations st.wire ∙ ap (λ ds. shown plan.faults ds) (sym
+    ap (λ p. p ∷ past) (c.show-shown.ensures.pair (alone plan) past (trace LAG plan [] [] [] t).driven stations
+    (called-named _ _ _ _ _ _ st.row.present_are c.stations.ensures c.places.ensures st.row.calls.called) st.wire ∙ ap (λ ds. shown plan.faults ds) (sym
     (driven-next plan t)))
     ∙ sym (world-next plan t) in
-    serves-moved plan before _ _ _ _ next (c.hear.ensures.serves (most_attempts plan) plan past before st.row here serves)
+    serves-moved (alone plan) before _ _ _ _ next (c.hear-moment.ensures.serves (most_attempts plan) (alone plan) _ _ past before st.row here serves)

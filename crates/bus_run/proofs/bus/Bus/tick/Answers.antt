@@ -3,6 +3,11 @@ use Rattle.bus_run.specs.Stands.{BusStands}
 use Rattle.bus_run.proofs.TableRun.{of-plan, goes-on, over-there, on-before}
 use Rattle.bus_run.proofs.bus.Bus.tick.Goals as goal
 
+pub is_over-requires : goal.is_over-requires
+is_over-requires g c =
+    let (plan, t, before, st, serves) = c.requires in
+    (plan, t, st)
+
 pub returns-then-is_over-clause-shown : goal.returns-then-is_over-clause-shown
 unfolding BusStands
 returns-then-is_over-clause-shown g c plan t st early =

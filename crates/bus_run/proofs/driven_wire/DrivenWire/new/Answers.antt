@@ -7,6 +7,7 @@ pub returns : goal.returns
 returns c plan faults all = record {
   wire = subst (λ fs. WireStands fs c.new.result []) (sym faults) c.new.ensures;
   drives = sym all;
-  few = (let most = c.requires in omega (arith, all, most));
+  silent = c.requires.silent;
+  few = (let most = c.requires.few in omega (arith, all, most));
   clashes_are = sym (clashes-none plan.faults);
 }

@@ -1,43 +1,90 @@
 use Rattle.std.proofs.Common.{◌≡◌, ◌∷◌, [], ◌∙◌, length, sym, ap, arith, subst, List, ◌+◌, if◌then◌else◌}
-use Rattle.std.proofs.lemmas.List.{length-map}
 use Rattle.bus_base.specs.declared.samples.Channel.TheVariants.{A, B}
 use Rattle.bus_base.specs.declared.samples.Drive.{Drive}
 use Rattle.bus_line.specs.declared.cutter.TheConstants.{LAG}
 use Rattle.bus_model.specs.Wire.{drivers}
-use Rattle.bus_model.specs.World.{drive_after, drives_after, is_clash}
+use Rattle.bus_model.specs.World.{drives_after, is_clash}
+use Rattle.bus_wire.specs.Places.{AreRising, AreSilentBeside}
 use Rattle.bus_wire.specs.WireStands.{WireStands}
+use Rattle.bus_run.proofs.DrivenLaws.{drives-are}
 use Rattle.bus_run.proofs.WireLaws.{clashes-next, clashes-few}
 use Rattle.bus_run.proofs.driven_wire.DrivenWire.show.Goals as goal
 
-pub show-shown-requires-clause-few : goal.show-shown-requires-clause-few
-show-shown-requires-clause-few c =
-    let (plan, past, driven, st, wire, small) = c.requires in
-    let is : length c.deref.result.now ≡ length plan.stations =
-    ap length (c.deref.ensures.value ∙ c.drive.ensures.drives plan past st) ∙ length-map plan.stations (drive_after LAG plan [] [] [] past) in
+pub drive-requires-clause-all : goal.drive-requires-clause-all
+drive-requires-clause-all c =
+    let (w, past, driven, st, called, wire, small) = c.requires in
+    wire.drives ∙ sym st.all
+
+pub drive-requires-clause-rising : goal.drive-requires-clause-rising
+drive-requires-clause-rising c =
+    let (w, past, driven, st, called, wire, small) = c.requires in
+    called.rising
+
+pub drive-requires-clause-silent : goal.drive-requires-clause-silent
+drive-requires-clause-silent c =
+    let (w, past, driven, st, called, wire, small) = c.requires in
+    wire.silent
+
+pub show_among-shown-requires-clause-few : goal.show_among-shown-requires-clause-few
+show_among-shown-requires-clause-few c =
+    let (w, past, driven, st, called, wire, small) = c.requires in
+    let is = ap length c.deref.ensures.value in
+    let all = c.drive.ensures.drives.all in
+    let same = st.all in
     let few = wire.few in
-    omega (arith, is, few)
+    omega (arith, is, all, same, few)
+
+pub show_among-shown-requires-clause-rising : goal.show_among-shown-requires-clause-rising
+show_among-shown-requires-clause-rising c =
+    let (w, past, driven, st, called, wire, small) = c.requires in
+    subst (λ n. AreRising 0 n c.args.places.now) (sym (ap length c.deref.ensures.value ∙ c.drive.ensures.drives.all)) called.rising
+
+pub show_among-shown-requires-clause-silent : goal.show_among-shown-requires-clause-silent
+show_among-shown-requires-clause-silent c =
+    subst (λ (ds : List Drive). AreSilentBeside 0 c.args.places.now ds) (sym c.deref.ensures.value)
+    (λ i drive low at none. c.drive.ensures.drives.others i drive at none)
+
+pub silence-requires-clause-rising : goal.silence-requires-clause-rising
+silence-requires-clause-rising c =
+    let (w, past, driven, st, called, wire, small) = c.requires in
+    subst (λ n. AreRising 0 n c.args.places.now) (sym c.drive.ensures.drives.all) called.rising
+
+pub silence-requires-clause-silent : goal.silence-requires-clause-silent
+silence-requires-clause-silent c = c.drive.ensures.drives.others
 
 pub clashes_after-self-requires : goal.clashes_after-self-requires
 clashes_after-self-requires c =
-    let (plan, past, driven, st, wire, small) = c.requires in
-    let same = c.drive.ensures.clashes in
+    let (w, past, driven, st, called, wire, small) = c.requires in
+    let same = c.silence.ensures.clashes in
+    let before = c.drive.ensures.clashes in
     let is = wire.clashes_are in
-    let most = clashes-few plan.faults driven in
-    omega (arith, same, is, most, small)
+    let most = clashes-few w.plan.faults driven in
+    omega (arith, same, before, is, most, small)
+
+pub returns-clause-pair : goal.returns-clause-pair
+returns-clause-pair c w past driven st called wire =
+    let drives : c.deref.result.now ≡ drives_after LAG w.plan w.loads w.outside w.absent past =
+    c.deref.ensures.value ∙ drives-are w past c.args.stations.now c.args.places.now _ st called c.drive.ensures.drives in
+    let before : WireStands w.plan.faults c.drive.new.self.wire driven = subst (λ v. WireStands w.plan.faults v driven) (sym c.drive.ensures.wire) wire.wire in
+    rw (← drives) (c.show_among-shown.ensures.pair w.plan.faults driven before)
 
 pub returns-clause-stands : goal.returns-clause-stands
-returns-clause-stands c plan past driven st wire =
-    let drives : c.deref.result.now ≡ drives_after LAG plan [] [] [] past = c.deref.ensures.value ∙ c.drive.ensures.drives plan past st in
-    let before : WireStands plan.faults c.drive.new.self.wire driven = subst (λ w. WireStands plan.faults w driven) (sym c.drive.ensures.wire) wire.wire in
+returns-clause-stands c w past driven st called wire =
+    let drives : c.deref.result.now ≡ drives_after LAG w.plan w.loads w.outside w.absent past =
+    c.deref.ensures.value ∙ drives-are w past c.args.stations.now c.args.places.now _ st called c.drive.ensures.drives in
+    let before : WireStands w.plan.faults c.drive.new.self.wire driven = subst (λ v. WireStands w.plan.faults v driven) (sym c.drive.ensures.wire) wire.wire in
     record {
-      wire = subst (λ (ds : List Drive). WireStands plan.faults c.show-shown.new.self (ds ∷ driven)) drives
-          (c.show-shown.ensures.stands plan.faults driven before);
-      drives = ap length (c.drive.ensures.drives plan past st) ∙ length-map plan.stations (drive_after LAG plan [] [] [] past);
+      wire = subst (λ v. WireStands w.plan.faults v (drives_after LAG w.plan w.loads w.outside w.absent past ∷ driven)) (sym c.silence.ensures.wire)
+          (subst (λ (ds : List Drive). WireStands w.plan.faults c.show_among-shown.new.self (ds ∷ driven)) drives
+          (c.show_among-shown.ensures.stands w.plan.faults driven before));
+      drives = c.silence.ensures.all ∙ c.drive.ensures.drives.all ∙ st.all;
+      silent = c.silence.ensures.silent;
       few = wire.few;
-      clashes_are = c.clashes_after-self.ensures (drivers plan.faults A (drives_after LAG plan [] [] [] past ∷ driven)) (drivers plan.faults B
-          (drives_after LAG plan [] [] [] past ∷ driven))
-          (subst (λ (ds : List Drive). c.show-shown.result.drivers ≡ drivers plan.faults A (ds ∷ driven) ∷ drivers plan.faults B (ds ∷ driven) ∷ []) drives
-          (c.show-shown.ensures.drivers plan.faults driven before))
-          ∙ ap (λ n. (if is_clash plan.faults (drives_after LAG plan [] [] [] past ∷ driven) then 1 else 0) + n) (c.drive.ensures.clashes ∙ wire.clashes_are)
-          ∙ sym (clashes-next plan.faults (drives_after LAG plan [] [] [] past) driven);
+      clashes_are = c.clashes_after-self.ensures (drivers w.plan.faults A (drives_after LAG w.plan w.loads w.outside w.absent past ∷ driven)) (drivers w.plan.faults B
+          (drives_after LAG w.plan w.loads w.outside w.absent past ∷ driven))
+          (subst (λ (ds : List Drive). c.show_among-shown.result.drivers ≡ drivers w.plan.faults A (ds ∷ driven) ∷ drivers w.plan.faults B (ds ∷ driven) ∷ []) drives
+          (c.show_among-shown.ensures.drivers w.plan.faults driven before))
+          ∙ ap (λ n. (if is_clash w.plan.faults (drives_after LAG w.plan w.loads w.outside w.absent past ∷ driven) then 1 else 0) + n)
+          (c.silence.ensures.clashes ∙ c.drive.ensures.clashes ∙ wire.clashes_are)
+          ∙ sym (clashes-next w.plan.faults (drives_after LAG w.plan w.loads w.outside w.absent past) driven);
     }

@@ -26,7 +26,7 @@ put_at-requires-clause-stands c =
       past,
       st.each c.loop-place.place s c.index-stations-place.result found
           (slice_get_read c.args.stations.now
-          (length c.args.stations.now) c.loop-place.place c.index-stations-place.result refl c.loop-place-test.true c.index-stations-place.is),
+          (length c.args.stations.now) c.loop-place.place c.index-stations-place.result refl c.loop-place-test.true c.index-stations-place.is) refl,
     )
 
 pub put_at-requires-clause-terminal_room : goal.put_at-requires-clause-terminal_room
@@ -48,7 +48,7 @@ loop-place-preserved c = record {
       (c.put_at.ensures.put plan s past (so_far plan past c.args.address c.loop-place.place) (ap (λ v. v.items) c.loop-place.invariant.addresses ∙ are) found
       (st.each c.loop-place.place s c.index-stations-place.result found
       (slice_get_read c.args.stations.now
-      (length c.args.stations.now) c.loop-place.place c.index-stations-place.result refl c.loop-place-test.true c.index-stations-place.is))
+      (length c.args.stations.now) c.loop-place.place c.index-stations-place.result refl c.loop-place-test.true c.index-stations-place.is) refl)
       (c.loop-place.invariant.put plan past are st put));
   terminals = omega (arith, c.put_at.ensures.terminals, c.loop-place.invariant.terminals);
   blocks = omega (arith, c.put_at.ensures.blocks, c.loop-place.invariant.blocks);

@@ -1,21 +1,23 @@
-use Rattle.std.proofs.Common.{◌∙◌, sym}
-use Rattle.bus_line.specs.declared.cutter.TheConstants.{LAG}
-use Rattle.bus_model.specs.Starts.{starts}
-use Rattle.bus_station.proofs.Own.{begins-step, stands-keeps}
-use Rattle.bus_run.proofs.DeliveryLaws.{delivering-none}
-use Rattle.bus_run.proofs.RowLaws.{attempts-none}
+use Rattle.std.proofs.Common.{refl, arith, sym}
+use Rattle.bus_run.proofs.CalledLaws.{called-named}
+use Rattle.bus_run.proofs.NewLaws.{begins-keeps, begins-in-step}
 use Rattle.bus_run.proofs.station_row.StationRow.new.Goals as goal
 
 pub returns : goal.returns
-returns c most plan begin room objects = record {
-  stations = record {
-    all = begin.all;
-    each = λ i s value found at. stands-keeps LAG s (starts plan s) _ _ value _ (begin.each i s value found at);
-  };
-  attempts_are = c.requires ∙ sym (attempts-none plan);
+returns c most w loads outside begin present room taken objects = record {
+  stations = record { all = begin.all; each = λ i s value found at here. begins-keeps w s value loads outside (begin.each i s value found at) };
+  present_are = present;
+  attempts_are = c.requires.attempts;
   room = room;
+  taken_room = taken;
   objects = objects;
-  delivering_is = sym (delivering-none plan);
+  delivering_is = refl;
+  delivering_few = omega arith;
   receiver = c.new.ensures;
-  in_step = λ i s value found at. begins-step LAG s (starts plan s) c.new.result value c.new.ensures (begin.each i s value found at);
+  in_step = λ i s value found at here. begins-in-step w s c.new.result value loads outside c.new.ensures (begin.each i s value found at);
+  calls = record {
+    few = c.requires.few;
+    called = called-named c.deref-2.result.now c.args.present.items c.deref.result.now c.args.stations.items _ _
+        c.deref-2.ensures.value (sym c.deref.ensures.value) refl c.places_called-places.ensures;
+  };
 }
