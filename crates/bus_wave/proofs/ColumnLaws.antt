@@ -29,7 +29,7 @@ pub shown-all : (c : Channel) (told : List Told) (known : ℕ → Column) (t : �
 shown-all c [] known t = refl
 shown-all c (x ∷ xs) known t = shown-all c xs (after c x known) t ∙ shown-after c x known t
 
-begun-other : (tick t : ℕ) (shown : Pair) (known : ℕ → Column) → t < tick → begun tick shown known t ≡ known t
+pub begun-other : (tick t : ℕ) (shown : Pair) (known : ℕ → Column) → t < tick → begun tick shown known t ≡ known t
 begun-other tick t shown known h =
     let other : (t == tick) ≡ false = grind (arith, nat_tests, h) in
     ap (λ b. if b then column_of shown else known t) other
@@ -64,7 +64,7 @@ shown-at-end k past t h =
     ∙ ap (λ (c : Column). c.shown) (begun-other (length past) t quiet_pair (columns k past) h)
 
 -- what was shown before a tick, by what each tick showed
-shown-before-by : (zero-tick : Bool) (known other : ℕ → Column) (t : ℕ) → (zero-tick ≡ false → (known (t - 1)).shown ≡ (other (t - 1)).shown) →
+pub shown-before-by : (zero-tick : Bool) (known other : ℕ → Column) (t : ℕ) → (zero-tick ≡ false → (known (t - 1)).shown ≡ (other (t - 1)).shown) →
     (if zero-tick then quiet_pair else (known (t - 1)).shown) ≡ (if zero-tick then quiet_pair else (other (t - 1)).shown)
 shown-before-by true known other t h = refl
 shown-before-by false known other t h = h refl

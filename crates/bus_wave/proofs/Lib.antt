@@ -2,8 +2,9 @@ pub mod TextLaws
 pub mod DelayLaws
 pub mod ColumnLaws
 pub mod MarkLaws
+pub mod KeptLaws
 pub mod DrawLaws
 pub mod WriteLaws
+pub mod TakeLaws
 pub mod ReadLaws
 pub mod ReadBackLaws
-pub mod QuietLaws

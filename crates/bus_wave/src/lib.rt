@@ -13,6 +13,8 @@ pub mod marking;
 pub mod marks;
 pub mod text;
 pub mod tool;
+pub mod wave_lister;
+pub mod wave_writer;
 pub mod writing;
 
 pub use tool::wave_tool;

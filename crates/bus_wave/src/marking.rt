@@ -1,5 +1,5 @@
 //! What each tick of a channel tells of its wave.
-ghost use Rattle.std.specs.Prelude.{◌≡◌, ◌+◌, ◌-◌, ◌*◌, ◌<◌, ◌^◌, ◌∷◌, [], ℕ, List, length, take, true, false, is_some, option_to_list, IfSome, Option, None, Some, flat_map};
+ghost use Rattle.std.specs.Prelude.{◌≡◌, ◌==◌, ◌&&◌, is_none, ◌+◌, ◌-◌, ◌*◌, ◌<◌, ◌^◌, ◌∷◌, [], ℕ, List, length, take, true, false, is_some, option_to_list, IfSome, Option, None, Some, flat_map};
 ghost use Rattle.bus_base.specs.declared.samples.Sample.{Sample};
 ghost use Rattle.bus_words.specs.declared.word.Word.{Word};
 ghost use Rattle.bus_formats.specs.Accepted.{HasKindRanges};
@@ -151,11 +151,24 @@ impl Marker {
             Marked line.old line.new (now + 1) channel (told_index first index word self.old.lister.waiting) }
         ensures keeps { self.new.lister ≡ record self.old.lister { slots = record { items = kept_with self.old.lister.slots.items word } } }
     {
-        let first = self.lister.running.unwrap_or(0);
-        let opens = index == 0 && self.lister.waiting.is_none();
-        let tick = first.saturating_add(index.saturating_mul(40));
-        line.mark(channel, now + 1, tick, Mark::Word(slot_mark(opens, word)));
+        let first = self.first();
+        let opens = self.opens(index);
+        mark_slot(channel, now + 1, first, index, opens, word, line);
         self.lister.keep(word);
+    }
+
+    // The first tick of the burst that runs.
+    fn first(&self) -> u64
+        ensures { (first : ℕ) → self.now.lister.running ≡ Some first → result ≡ first }
+    {
+        self.lister.running.unwrap_or(0)
+    }
+
+    // Whether the slot with this index begins a message.
+    fn opens(&self, index: u64) -> bool
+        ensures { result ≡ ((index == 0) && is_none self.now.lister.waiting) }
+    {
+        index == 0 && self.lister.waiting.is_none()
     }
 
     // The burst that ran has ended, with so many ticks after its last whole slot.
@@ -319,6 +332,23 @@ fn terminal(waiting: &Waiting) -> SenderMark
         Some(shape) => SenderMark::Terminal(shape.address),
         None => SenderMark::Unknown,
     }
+}
+
+// The slot with this index ended, of the burst from a tick on.
+fn mark_slot(
+    channel: Channel,
+    ticks: u64,
+    first: u64,
+    index: u64,
+    opens: bool,
+    word: Option<Word>,
+    line: &mut DelayLine,
+)
+    ensures { first + 40 * index < 2 ^ 60 →
+        Marked line.old line.new ticks channel (told_at (first + 40 * index) (Mark.Word (spec.slot_mark opens word)) ∷ []) }
+{
+    let tick = first.saturating_add(index.saturating_mul(40));
+    line.mark(channel, ticks, tick, Mark::Word(slot_mark(opens, word)));
 }
 
 fn slot_mark(opens: bool, word: Option<Word>) -> WordMark

@@ -80,6 +80,20 @@ pub struct Column {
     pub b: Marks,
 }
 
+/// What both channels show in a tick, and whether the tick has marks.
+#[derive(Clone, Copy)]
+pub struct Cell {
+    pub shown: Pair,
+    pub is_marked: bool,
+}
+
+/// The marks of both channels at a tick.
+#[derive(Clone, Copy)]
+pub struct TickMarks {
+    pub a: Marks,
+    pub b: Marks,
+}
+
 impl Marks {
     /// No marks.
     pub const NONE: Marks = Marks {
@@ -111,15 +125,7 @@ impl Marks {
 }
 
 impl Column {
-    /// A column without marks.
-    pub const BLANK: Column = Column {
-        shown: Pair::QUIET,
-        a: Marks::NONE,
-        b: Marks::NONE,
-    };
-
-    /// The column of a tick that shows this.
-    #[inline(always)]
+    /// The column of a tick that shows this, without marks.
     pub fn of(shown: Pair) -> Column
         ensures { result ≡ column_of shown }
     {

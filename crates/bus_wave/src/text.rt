@@ -433,7 +433,7 @@ fn is_minus(sample: Sample) -> bool
 }
 
 #[inline(always)]
-fn same(before: Sample, now: Sample) -> bool
+pub fn same(before: Sample, now: Sample) -> bool
     ensures { result ≡ same_sample before now }
 {
     match (before, now) {

@@ -1,15 +1,28 @@
 //! A wave from the first piece of its capture to the last.
-ghost use Rattle.std.specs.Prelude.{◌≡◌, ◌<◌, ◌≤◌, ◌+◌, ◌-◌, ◌^◌, ◌++◌, [], ℕ, List, Option, true, false, length};
+ghost use Rattle.std.specs.Prelude.{◌≡◌, ◌<◌, ◌≤◌, ◌^◌, ◌++◌, [], ℕ, List, Option, true, false, length};
 ghost use Rattle.std.specs.Io.KnownBytes.{IsAtEnd};
 ghost use Rattle.bus_base.specs.declared.samples.Pair.{Pair};
 ghost use Rattle.bus_line.specs.declared.cutter.TheConstants.{LAG};
-ghost use Rattle.bus_monitor.specs.Scribes.{Follows, ListingHasCause, ReadCause, CauseOf, Owed, Closes, FaultHasCause};
-ghost use Rattle.bus_wave.specs.Drawers.{DrawerStands, DrawerEnds};
-ghost use Rattle.bus_wave.specs.Waves.{wave_so_far, undrawn};
-ghost use Rattle.bus_wave.specs.Written.{IsDrawn, IsRead, PieceRead, ReadEnds, DrewTick, DrewAll, left_text, comment_of, whole_wave, is_fault};
+ghost use Rattle.bus_monitor.specs.Scribes.{Owed, ListingHasCause, ReadCause, CauseOf, Closes};
+ghost use Rattle.bus_wave.specs.Drawers.{Draws, ListerStands, LineEnds};
+ghost use Rattle.bus_wave.specs.Written.{
+  IsDrawn,
+  IsRead,
+  PieceRead,
+  ReadEnds,
+  WaveFollows,
+  DrewDue,
+  Hears,
+  comment_of,
+  whole_wave,
+  text_before_end,
+  is_fault,
+};
 
-use crate::drawer::Drawer;
-use crate::text::{HEAD, add_refusal};
+use crate::drawer::draw_end;
+use crate::text::add_refusal;
+use crate::wave_lister::WaveLister;
+use crate::wave_writer::{WaveWriter, write};
 use bus_monitor::{Listing, ListingWriter, Page, Stop};
 use bus_outside::{Sink, Source};
 
@@ -17,38 +30,29 @@ use bus_outside::{Sink, Source};
 const MOST_BYTES: u64 = 8_589_934_593;
 
 // The bytes of a piece.
-const PIECE: u64 = 4096;
+const PIECE: u64 = 2048;
 
-/// Reads a capture to its end, in pieces of at most 4,096 bytes, and writes its wave while it reads, 1,536 ticks behind. Where the capture is refused, or a read
+/// Reads a capture to its end, in pieces of at most 2,048 bytes, and writes its wave while it reads, 1,536 ticks behind. Where the capture is refused, or a read
 /// fails, the wave of the ticks before is written, and of a refusal its comment. It takes no memory.
 pub fn write_wave<S: Source, K: Sink>(source: &mut S, sink: &mut K) -> Listing
     ensures drawn { IsDrawn (S.left source.old) (S.left source.new) (K.held sink.old) (K.held sink.new) result }
     ensures cause { ListingHasCause (S.faults source.old) (S.faults source.new) (K.faults sink.old) (K.faults sink.new) result }
 {
-    let mut writer = begin();
-    let mut piece = [0u8; 4096];
+    let mut writer = WaveWriter::new();
+    let mut piece = [0u8; 2048];
     let ending = read_all(&mut writer, &mut piece, source, sink);
     finish(&mut writer, ending, sink)
 }
 
-// A writer that has read nothing.
-fn begin() -> ListingWriter<Drawer>
-    ensures { (first : Option (List ℕ)) → Follows DrawerStands (wave_so_far LAG) result [] first first }
-{
-    let mut head = Page::new();
-    head.text(HEAD);
-    ListingWriter::new(Drawer::new(), head)
-}
-
 // Reads to the end, piece by piece.
 fn read_all<S: Source, K: Sink>(
-    writer: &mut ListingWriter<Drawer>,
+    writer: &mut WaveWriter,
     piece: &mut [u8],
     source: &mut S,
     sink: &mut K,
 ) -> Listing
-    requires piece { length piece.old ≡ 4096 }
-    requires nothing { Follows DrawerStands (wave_so_far LAG) writer.old [] (K.held sink.old) (K.held sink.old) }
+    requires piece { length piece.old ≡ 2048 }
+    requires nothing { WaveFollows writer.old [] (K.held sink.old) (K.held sink.old) }
     ensures read { IsRead (S.left source.old) (S.left source.new) (K.held sink.old) (K.held sink.new) writer.new result }
     ensures cause { ListingHasCause (S.faults source.old) (S.faults source.new) (K.faults sink.old) (K.faults sink.new) result }
 {
@@ -64,22 +68,23 @@ fn read_all<S: Source, K: Sink>(
 
 // Reads a piece and takes it. The number of its bytes; or how the reading ends.
 fn read_piece<S: Source, K: Sink>(
-    writer: &mut ListingWriter<Drawer>,
+    writer: &mut WaveWriter,
     piece: &mut [u8],
     source: &mut S,
     sink: &mut K,
 ) -> Result<usize, Listing>
     requires some { 0 < length piece.old }
-    requires follows { (bytes : List ℕ) × (first : Option (List ℕ)) × Follows DrawerStands (wave_so_far LAG) writer.old bytes first (K.held sink.old) }
-    ensures read { (bytes : List ℕ) (first : Option (List ℕ)) → Follows DrawerStands (wave_so_far LAG) writer.old bytes first (K.held sink.old) →
+    requires short { length piece.old ≤ 2048 }
+    requires follows { (bytes : List ℕ) × (first : Option (List ℕ)) × WaveFollows writer.old bytes first (K.held sink.old) }
+    ensures read { (bytes : List ℕ) (first : Option (List ℕ)) → WaveFollows writer.old bytes first (K.held sink.old) →
         PieceRead (length piece.old) (S.left source.old) (S.left source.new) bytes first (K.held sink.new) writer.new result }
     ensures reads { S.faults source.old ≤ S.faults source.new }
     ensures writes { K.faults sink.old ≤ K.faults sink.new }
     ensures cause { ReadCause (S.faults source.old) (S.faults source.new) (K.faults sink.old) (K.faults sink.new) result }
 {
     match source.read(piece) {
-        Ok(0) => Err(ended(writer)),
-        Ok(count) => match writer.take_piece(&piece[..count], sink) {
+        Ok(0) => Err(ended(&writer.hearing)),
+        Ok(count) => match writer.take(&piece[..count], sink) {
             Ok(()) => Ok(count),
             Err(Stop::Refused(refusal)) => Err(Listing::Refused(refusal)),
             Err(Stop::WriteFault) => Err(Listing::WriteFault),
@@ -89,33 +94,31 @@ fn read_piece<S: Source, K: Sink>(
 }
 
 // What a capture comes to that ends here.
-fn ended(writer: &ListingWriter<Drawer>) -> Listing
-    ensures read { (bytes : List ℕ) (left first held : Option (List ℕ)) → IsAtEnd left → Follows DrawerStands (wave_so_far LAG) writer.now bytes first held →
-        ReadEnds left bytes result }
+fn ended(hearing: &ListingWriter<WaveLister>) -> Listing
+    ensures read { (bytes : List ℕ) (left : Option (List ℕ)) → IsAtEnd left → Hears hearing.now bytes → ReadEnds left bytes result }
     ensures cause { (source sink : ℕ) → CauseOf source source sink sink result }
 {
-    match writer.reader.end() {
+    match hearing.reader.end() {
         Ok(ticks) => Listing::Done(ticks),
         Err(refusal) => Listing::Refused(refusal),
     }
 }
 
 // Writes what is left.
-fn finish<K: Sink>(writer: &mut ListingWriter<Drawer>, ending: Listing, sink: &mut K) -> Listing
-    requires { is_fault ending ≡ false → (past : List Pair) × (first : Option (List ℕ)) × DrawerStands writer.old.lister past × (length past < 2 ^ 60)
-        × Owed (wave_so_far LAG past) writer.old.text first (K.held sink.old) }
+fn finish<K: Sink>(writer: &mut WaveWriter, ending: Listing, sink: &mut K) -> Listing
+    requires { is_fault ending ≡ false → (past : List Pair) × (first : Option (List ℕ)) × ListerStands writer.old.hearing.lister past × (length past < 2 ^ 60)
+        × Draws writer.old.drawer writer.old.text past first (K.held sink.old) }
     ensures fault { is_fault ending ≡ true → (result ≡ ending) × (K.held sink.new ≡ K.held sink.old) × (K.faults sink.new ≡ K.faults sink.old) }
-    ensures closes { is_fault ending ≡ false → (past : List Pair) (first : Option (List ℕ)) → DrawerStands writer.old.lister past → length past < 2 ^ 60 →
-        Owed (wave_so_far LAG past) writer.old.text first (K.held sink.old) →
+    ensures closes { is_fault ending ≡ false → (past : List Pair) (first : Option (List ℕ)) → ListerStands writer.old.hearing.lister past → length past < 2 ^ 60 →
+        Draws writer.old.drawer writer.old.text past first (K.held sink.old) →
         Closes (whole_wave ending past) ending first (K.held sink.new) (K.faults sink.old) (K.faults sink.new) result }
     ensures later { K.faults sink.old ≤ K.faults sink.new }
 {
     if is_write_fault(ending) {
         return ending;
     }
-    writer.lister.end();
-    match draw_left(writer, sink) {
-        Ok(()) => close(writer, ending, sink),
+    match writer.draw_due(sink) {
+        Ok(()) => draw_left(writer, ending, sink),
         Err(_) => Listing::WriteFault,
     }
 }
@@ -129,59 +132,36 @@ fn is_write_fault(ending: Listing) -> bool
     }
 }
 
-// Writes the ticks that aren't drawn yet.
-fn draw_left<K: Sink>(writer: &mut ListingWriter<Drawer>, sink: &mut K) -> Result<(), Stop>
-    requires { (past : List Pair) × (first : Option (List ℕ)) × DrawerEnds writer.old.lister past (undrawn (length past)) × (length past < 2 ^ 60)
-        × Owed (wave_so_far LAG past) writer.old.text first (K.held sink.old) }
-    ensures left { (past : List Pair) (first : Option (List ℕ)) → DrawerEnds writer.old.lister past (undrawn (length past)) → length past < 2 ^ 60 →
-        Owed (wave_so_far LAG past) writer.old.text first (K.held sink.old) →
-        DrewAll past first writer.new (K.held sink.new) result }
-    ensures cause { FaultHasCause (K.faults sink.old) (K.faults sink.new) result }
-{
-    let ticks = writer.lister.ticks();
-    let mut tick = writer.lister.undrawn();
-    match writer.write_long(sink) {
-        Ok(()) => {}
-        Err(stop) => return Err(stop),
-    }
-    'ticks: while tick < ticks {
-        match draw_tick(writer, tick, sink) {
-            Ok(()) => tick += 1,
-            Err(stop) => return Err(stop),
-        }
-    }
-    Ok(())
-}
-
-// Adds the lines of a tick, and writes the text where it gets long.
-fn draw_tick<K: Sink>(
-    writer: &mut ListingWriter<Drawer>,
-    tick: u64,
-    sink: &mut K,
-) -> Result<(), Stop>
-    requires time { tick < 2 ^ 60 }
-    requires room { length writer.old.text ≤ 3000 }
-    ensures drawn { (past : List Pair) (first : Option (List ℕ)) (m : ℕ) → DrawerEnds writer.old.lister past tick → tick < length past →
-        tick ≡ undrawn (length past) + m → Owed (left_text past m) writer.old.text first (K.held sink.old) →
-        DrewTick past first tick m writer.new (K.held sink.new) result }
-    ensures cause { FaultHasCause (K.faults sink.old) (K.faults sink.new) result }
-{
-    writer.lister.draw(tick, &mut writer.text);
-    writer.write_long(sink)
-}
-
-// Writes the end, and of a refused capture its comment.
-fn close<K: Sink>(writer: &mut ListingWriter<Drawer>, ending: Listing, sink: &mut K) -> Listing
-    requires ends { (past : List Pair) × DrawerEnds writer.old.lister past (length past) × (length past < 2 ^ 60) }
-    requires room { length writer.old.text ≤ 3000 }
-    ensures closes { (past : List Pair) (first : Option (List ℕ)) → DrawerEnds writer.old.lister past (length past) →
-        Owed (left_text past (length past - undrawn (length past))) writer.old.text first (K.held sink.old) →
+// Writes the ticks that aren't due, and the end.
+fn draw_left<K: Sink>(writer: &mut WaveWriter, ending: Listing, sink: &mut K) -> Listing
+    requires { (past : List Pair) × (first : Option (List ℕ)) × ListerStands writer.old.hearing.lister past × (length past < 2 ^ 60)
+        × DrewDue writer.old past first (K.held sink.old) }
+    ensures closes { (past : List Pair) (first : Option (List ℕ)) → ListerStands writer.old.hearing.lister past → length past < 2 ^ 60 →
+        DrewDue writer.old past first (K.held sink.old) →
         Closes (whole_wave ending past) ending first (K.held sink.new) (K.faults sink.old) (K.faults sink.new) result }
     ensures later { K.faults sink.old ≤ K.faults sink.new }
 {
-    writer.lister.draw_end(&mut writer.text);
+    writer.hearing.lister.end();
+    let ticks = writer.hearing.lister.ticks();
+    match writer.draw_to(ticks, sink) {
+        Ok(()) => close(writer, ending, sink),
+        Err(_) => Listing::WriteFault,
+    }
+}
+
+// Writes the end, and of a refused capture its comment.
+fn close<K: Sink>(writer: &mut WaveWriter, ending: Listing, sink: &mut K) -> Listing
+    requires ends { (past : List Pair) × LineEnds writer.old.hearing.lister past × (length past < 2 ^ 60) }
+    requires room { length writer.old.text ≤ 3000 }
+    ensures closes { (past : List Pair) (first : Option (List ℕ)) → LineEnds writer.old.hearing.lister past →
+        Owed (text_before_end past) writer.old.text first (K.held sink.old) →
+        Closes (whole_wave ending past) ending first (K.held sink.new) (K.faults sink.old) (K.faults sink.new) result }
+    ensures later { K.faults sink.old ≤ K.faults sink.new }
+{
+    let ticks = writer.hearing.lister.ticks();
+    draw_end(&writer.hearing.lister.line, ticks, &mut writer.text);
     add_comment(ending, &mut writer.text);
-    match writer.write(sink) {
+    match write(&mut writer.text, sink) {
         Ok(()) => ending,
         Err(_) => Listing::WriteFault,
     }

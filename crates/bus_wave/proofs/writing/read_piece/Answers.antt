@@ -3,6 +3,7 @@ use Rattle.std.specs.Io.KnownBytes.{Consumes}
 use Rattle.std.proofs.KnownBytes.{Consumes-kept, Consumes-nil}
 use Rattle.bus_monitor.proofs.WriterLaws.{cause-source}
 use Rattle.bus_wave.proofs.ReadLaws.{kept-so}
+use Rattle.bus_wave.proofs.TakeLaws.{follows-kept}
 use Rattle.bus_wave.proofs.writing.read_piece.Goals as goal
 
 pub returns-in-Ok-eq0-clause-cause : goal.returns-in-Ok-eq0-clause-cause
@@ -19,19 +20,18 @@ returns-in-Ok-eq0-clause-read g c bytes first f =
       consumed = subst (Consumes (g.S.Source.left c.args.source.now) (g.S.Source.left c.read.new.self)) none c.in-Ok-eq0.ensures.bytes.0;
       fits = omega arith;
       kept = kept-so (g.S.Source.left c.read.new.self) bytes first (g.K.Sink.held c.args.sink.now) c.args.writer.now c.ended.result
-          (c.ended.ensures.read bytes (g.S.Source.left c.read.new.self) first (g.K.Sink.held c.args.sink.now)
-          (c.in-Ok-eq0.ensures.bytes.1 zero (omega (arith, c.requires.some, c.read.auto.piece))) f)
-          (record { stands = f.holds.lister; owed = f.holds.written });
+          (c.ended.ensures.read bytes (g.S.Source.left c.read.new.self) (c.in-Ok-eq0.ensures.bytes.1 zero (omega (arith, c.requires.some, c.read.auto.piece))) f.hears)
+          (follows-kept c.args.writer.now bytes first (g.K.Sink.held c.args.sink.now) f);
     }
 
-pub returns-in-Ok-take_piece-clause-read : goal.returns-in-Ok-take_piece-clause-read
-returns-in-Ok-take_piece-clause-read g c bytes first f = record {
+pub returns-in-Ok-take-clause-read : goal.returns-in-Ok-take-clause-read
+returns-in-Ok-take-clause-read g c bytes first f = record {
   piece = take c.in-Ok.count c.read.new.piece;
   consumed = c.in-Ok.ensures.bytes.0;
   long = sym c.in-Ok.ensures.bound.1;
   some = grind (arith, c.in-Ok.count-test.1);
   fits = omega (arith, c.in-Ok.ensures.bound.0, c.read.auto.piece);
-  follows = c.in-Ok-take_piece.ensures.took bytes first f;
+  follows = c.in-Ok-take.ensures.took bytes first f;
 }
 
 pub returns-in-Err-Refused-clause-read : goal.returns-in-Err-Refused-clause-read
@@ -42,7 +42,7 @@ returns-in-Err-Refused-clause-read g c bytes first f =
       piece = take c.in-Ok.count c.read.new.piece;
       consumed = c.in-Ok.ensures.bytes.0;
       fits = omega (arith, long, c.in-Ok.ensures.bound.0, c.read.auto.piece);
-      kept = (inl took.0, record { stands = took.2; owed = took.1 });
+      kept = (inl took.0, took.1);
     }
 
 pub returns-in-Err-WriteFault-clause-read : goal.returns-in-Err-WriteFault-clause-read
@@ -62,5 +62,5 @@ returns-in-Err-clause-read g c bytes first f = record {
   consumed = Consumes-kept (g.S.Source.left c.args.source.now) (g.S.Source.left c.args.source.now) (g.S.Source.left c.read.new.self) []
       (Consumes-nil (g.S.Source.left c.args.source.now)) c.in-Err.ensures.bytes;
   fits = omega arith;
-  kept = (tt, record { stands = f.holds.lister; owed = f.holds.written });
+  kept = (tt, follows-kept c.args.writer.now bytes first (g.K.Sink.held c.args.sink.now) f);
 }

@@ -2,7 +2,7 @@ use Rattle.bus_wave.proofs.ReadLaws.{kept-here, wave-drawn, wave-cause}
 use Rattle.bus_wave.proofs.writing.write_wave.Goals as goal
 
 pub read_all-ending-requires-clause-nothing : goal.read_all-ending-requires-clause-nothing
-read_all-ending-requires-clause-nothing g c = c.begin-writer.ensures (g.K.Sink.held c.args.sink.now)
+read_all-ending-requires-clause-nothing g c = c.new-writer.ensures (g.K.Sink.held c.args.sink.now)
 
 pub finish-requires : goal.finish-requires
 finish-requires g c fine =
