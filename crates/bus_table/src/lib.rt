@@ -7,6 +7,8 @@
 #![tactic(auto)]
 
 pub mod channel_rows;
+mod contents;
+mod course;
 mod fields;
 pub mod flaw;
 pub mod format;
