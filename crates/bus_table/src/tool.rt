@@ -1,5 +1,5 @@
 //! The top call.
-ghost use Rattle.std.specs.Prelude.{◌≡◌, ◌≤◌, ◌++◌, length, map, string_bytes, codes};
+ghost use Rattle.std.specs.Prelude.{◌≡◌, ◌≤◌, length, map, string_bytes};
 ghost use Rattle.bus_table.specs.Ends as spec;
 ghost use Rattle.bus_table.specs.Meaning.{meaning, format_named as named};
 
@@ -7,6 +7,7 @@ use crate::{Format, write_table};
 use bus_capture::CaptureRefusal;
 use bus_monitor::Listing;
 use bus_outside::{Sink, Source};
+use bus_refusals::{capture_refusal_line, refuse_words};
 use bus_text::Line;
 
 /// Does what the words ask for, and answers the program's status. The words are the command line without the program's name: `csv` or `json`.
@@ -57,16 +58,6 @@ fn format_named(word: &str) -> Option<Format>
     None
 }
 
-fn refuse_words<K: Sink>(sink: &mut K) -> u8
-    ensures wrote { spec.WroteDue (K.held sink.old) (K.held sink.new) (K.faults sink.old) (K.faults sink.new) result 2 spec.words_refused }
-    ensures later { K.faults sink.old ≤ K.faults sink.new }
-{
-    match sink.write(b"words refused\n") {
-        Ok(()) => 2,
-        Err(_) => 5,
-    }
-}
-
 // The status after a table that ended so; at a refusal its line is written.
 fn status_after<K: Sink>(format: Format, listing: Listing, sink: &mut K) -> u8
     ensures answer { spec.StatusAfter (K.held sink.old) (K.held sink.new) (K.faults sink.old) (K.faults sink.new) result format listing }
@@ -87,39 +78,26 @@ fn status_after<K: Sink>(format: Format, listing: Listing, sink: &mut K) -> u8
 fn refusal_line(format: Format, refusal: CaptureRefusal) -> Line
     ensures { result ≡ spec.refusal_line format refusal }
 {
-    match refusal {
-        CaptureRefusal::Header(offset) => offset_line(format, "header", offset),
-        CaptureRefusal::Byte(offset) => offset_line(format, "byte", offset),
-        CaptureRefusal::HalfTick(offset) => offset_line(format, "half-tick", offset),
-        CaptureRefusal::Long(offset) => offset_line(format, "long", offset),
-    }
-}
-
-fn offset_line(format: Format, name: &str, offset: u64) -> Line
-    requires { length name.now ≤ 20 }
-    ensures { result ≡ spec.offset_line format name.now offset }
-{
     match format {
-        Format::Csv => plain_line(name, offset),
-        Format::Json => object_line(name, offset),
+        Format::Csv => capture_refusal_line(refusal),
+        Format::Json => refusal_object(refusal),
     }
 }
 
-fn plain_line(name: &str, offset: u64) -> Line
-    requires { length name.now ≤ 20 }
-    ensures { result ≡ spec.offset_line Format.Csv name.now offset }
+fn refusal_object(refusal: CaptureRefusal) -> Line
+    ensures { result ≡ spec.object_of refusal }
 {
-    let mut line = Line::new();
-    line.text("capture refused ");
-    line.text(name);
-    line.number(offset);
-    line.end();
-    line
+    match refusal {
+        CaptureRefusal::Header(offset) => refused_object("header", offset),
+        CaptureRefusal::Byte(offset) => refused_object("byte", offset),
+        CaptureRefusal::HalfTick(offset) => refused_object("half-tick", offset),
+        CaptureRefusal::Long(offset) => refused_object("long", offset),
+    }
 }
 
-fn object_line(name: &str, offset: u64) -> Line
+fn refused_object(name: &str, offset: u64) -> Line
     requires { length name.now ≤ 20 }
-    ensures { result ≡ spec.offset_line Format.Json name.now offset }
+    ensures { result ≡ spec.refused_object name.now offset }
 {
     let mut line = Line::new();
     line.text("{\"refused\":\"");
