@@ -17,6 +17,8 @@ mod kinds;
 pub mod laws;
 mod notes;
 pub mod table;
+#[cfg(test)]
+mod tests;
 pub mod tool;
 pub mod write;
 
