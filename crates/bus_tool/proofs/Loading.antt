@@ -14,7 +14,8 @@ use Rattle.bus_load.proofs.Verdicts.{long-starts, short-starts}
 use Rattle.bus_outside.specs.Causes.{Rose}
 use Rattle.bus_plan.specs.PlanOf.{plan_of_bytes}
 use Rattle.bus_run.specs.declared.finished.FinishedBus.{FinishedBus}
-use Rattle.bus_tool.specs.Answers.{AnswersRefused, AnswersLoad, WroteDue}
+use Rattle.bus_refusals.specs.Refusals.{WroteDue}
+use Rattle.bus_tool.specs.Answers.{AnswersRefused, AnswersLoad}
 use Rattle.bus_tool.specs.Due.{input_refusal, load_refusal, offer_line, offer_refusal, offer_refusal_by}
 use Rattle.bus_tool.specs.Ends.{ReadsInput, Reckoned, WasRefusedLoad, StoppedLoad, IsFine, EndsLoad}
 use Rattle.bus_tool.specs.Objects.{AreSame}

@@ -9,6 +9,7 @@ use Rattle.bus_line.specs.declared.cutter.TheConstants.{LAG}
 use Rattle.bus_load.specs.Lines.{load_text}
 use Rattle.bus_model.specs.Log.{run_log}
 use Rattle.bus_plan.specs.PlanOf.{plan_of_bytes}
+use Rattle.bus_refusals.specs.Refusals.{WroteDue}
 use Rattle.bus_run.specs.Stands.{FinishedStands}
 use Rattle.bus_run.specs.declared.finished.FinishedBus.{FinishedBus}
 use Rattle.bus_survey.specs.Surveys.{Surveys, SurveyHasCause}
@@ -18,11 +19,6 @@ use Rattle.bus_tool.specs.Due.{input_refusal, load_refusal}
 use Rattle.bus_tool.specs.Objects.{AreSame, AfterRun, AfterWant}
 use Rattle.bus_tool.specs.Texts.{plan_run, text_of, status_of}
 use Rattle.bus_tool.specs.declared.text.Text.{Text}
-
-module _ (held0 held1 : Option (List ℕ)) (sink0 sink1 : ℕ) (status : ℕ) where
-  -- the line was written whole with this status, or a front of it, where the sink failed
-  abbrev pub WroteDue : ℕ → List ℕ → Type 0
-  WroteDue done line = ((status ≡ done) × Appends held0 held1 line) ⊎ ((status ≡ 5) × Rose sink0 sink1 × GrowsByFront held0 held1 line)
 
 module _ (held0 held1 : Option (List ℕ)) (sink0 sink1 : ℕ) (status : ℕ) (bus : Option FinishedBus) where
   -- the answer to an input that is refused with this line

@@ -1,8 +1,6 @@
 -- What the program owes for an input: the line of a refusal, or the text of the run of the plan that was read.
 use Rattle.std.specs.Prelude.{◌≡◌, ℕ, ◌⊎◌, nat_lt, if◌then◌else◌, List, [], ◌++◌, length, codes, decimal, Option, Some, None, Result, Ok, Err}
 use Rattle.std.specs.Option.{option_or}
-use Rattle.bus_capture.specs.declared.refusal.CaptureRefusal.{CaptureRefusal}
-use Rattle.bus_capture.specs.declared.refusal.CaptureRefusal.TheVariants.{Header, Byte, HalfTick, Long}
 use Rattle.bus_formats.specs.Plans.{PlanData, without_subsystems}
 use Rattle.bus_formats.specs.declared.log.Delivery.{Delivery}
 use Rattle.bus_load.specs.Lines.{load_text}
@@ -22,9 +20,6 @@ use Rattle.bus_tool.specs.declared.text.Text.{Text}
 abbrev pub limit : ℕ
 limit = 4194304
 
-abbrev pub words_refused : List ℕ
-words_refused = line (codes "words refused")
-
 abbrev pub too_long : List ℕ
 too_long = line (codes "input refused too-long")
 
@@ -36,16 +31,6 @@ place_text (Some place) = spaced place
 abbrev pub refusal_line : PlanRefusal → List ℕ
 refusal_line refusal =
     line (codes "plan refused" ++ number (number_of refusal) ++ spaced (name_of refusal) ++ place_text (place_of refusal))
-
--- the name and the offset of a refused capture's first wrong byte
-abbrev pub capture_refusal_text : CaptureRefusal → List ℕ
-capture_refusal_text (Header offset) = codes " header" ++ number offset
-capture_refusal_text (Byte offset) = codes " byte" ++ number offset
-capture_refusal_text (HalfTick offset) = codes " half-tick" ++ number offset
-capture_refusal_text (Long offset) = codes " long" ++ number offset
-
-abbrev pub capture_refusal_line : CaptureRefusal → List ℕ
-capture_refusal_line refusal = line (codes "capture refused" ++ capture_refusal_text refusal)
 
 abbrev pub refusal_of : Result PlanData PlanRefusal → Option (List ℕ)
 refusal_of (Err refusal) = Some (refusal_line refusal)

@@ -26,8 +26,8 @@ use Rattle.bus_run.specs.Stands.{FinishedStands}
 use Rattle.bus_run.specs.declared.finished.FinishedBus.{FinishedBus}
 use Rattle.bus_survey.specs.Lines.{survey_text}
 use Rattle.bus_survey.specs.Surveys.{logs_of, SurveyedBefore}
-use Rattle.bus_tool.specs.Answers.{WroteDue}
-use Rattle.bus_tool.specs.Due.{limit, input_refusal, words_refused, capture_refusal_line, load_refusal, IsDue, IsSurveyDue, IsLoadDue}
+use Rattle.bus_refusals.specs.Refusals.{WroteDue, words_refused, capture_refusal_line}
+use Rattle.bus_tool.specs.Due.{limit, input_refusal, load_refusal, IsDue, IsSurveyDue, IsLoadDue}
 use Rattle.bus_tool.specs.EndsBench.{EndsBench}
 use Rattle.bus_tool.specs.EndsJudge.{EndsJudge}
 use Rattle.bus_tool.specs.Objects.{AreSame, AfterRun, AfterWant}

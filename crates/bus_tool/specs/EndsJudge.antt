@@ -5,8 +5,7 @@ use Rattle.bus_rules.specs.Judged.{IsJudged, JudgementHasCause}
 use Rattle.bus_rules.specs.declared.judgement.Judgement.{Judgement}
 use Rattle.bus_rules.specs.declared.judgement.Judgement.TheVariants.{Done, Refused, ReadFault, WriteFault}
 use Rattle.bus_run.specs.declared.finished.FinishedBus.{FinishedBus}
-use Rattle.bus_tool.specs.Answers.{WroteDue}
-use Rattle.bus_tool.specs.Due.{capture_refusal_line}
+use Rattle.bus_refusals.specs.Refusals.{WroteDue, capture_refusal_line}
 use Rattle.bus_tool.specs.Objects.{AreSame}
 
 -- the status after a judgement that ended so, with what the sink held then and now and its count of faults then and now: 1 exactly where there was a

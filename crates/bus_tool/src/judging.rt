@@ -2,8 +2,8 @@
 ghost use Rattle.std.specs.Prelude.{◌≡◌, ◌≤◌, nat_lt, if◌then◌else◌};
 ghost use Rattle.bus_tool.specs.EndsJudge.{JudgesCapture, StatusJudged};
 
-use crate::refusals::capture_refusal_line;
 use bus_outside::{Sink, Source};
+use bus_refusals::capture_refusal_line;
 use bus_rules::{Judgement, judge};
 
 /// The command `judge`: the breaches of a capture.

@@ -5,9 +5,9 @@ ghost use Rattle.bus_monitor.specs.Listings.{word_listing, message_listing};
 ghost use Rattle.bus_monitor.specs.Progress.{word_lines, message_lines};
 ghost use Rattle.bus_tool.specs.Ends.{ListsCapture, StatusAfter};
 
-use crate::refusals::capture_refusal_line;
 use bus_monitor::{Listing, list_messages, list_words};
 use bus_outside::{Sink, Source};
+use bus_refusals::capture_refusal_line;
 
 /// The command `decode`: the valid words of a capture.
 pub fn decode<S: Source, K: Sink>(source: &mut S, sink: &mut K) -> u8

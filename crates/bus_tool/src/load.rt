@@ -4,7 +4,8 @@ ghost use Rattle.bus_formats.specs.Accepted.{IsAccepted};
 ghost use Rattle.bus_formats.specs.declared.log.Delivery.{Delivery};
 ghost use Rattle.bus_load.specs.Lines.{load_text};
 ghost use Rattle.bus_load.specs.Load.{first_offer};
-ghost use Rattle.bus_tool.specs.Answers.{AnswersLoad, WroteDue};
+ghost use Rattle.bus_refusals.specs.Refusals.{WroteDue};
+ghost use Rattle.bus_tool.specs.Answers.{AnswersLoad};
 ghost use Rattle.bus_tool.specs.Ends.{EndsLoad};
 
 use crate::input::{LIMIT, Stop, read_input};

@@ -1,10 +1,8 @@
 //! The lines with which an input is refused.
 
-ghost use Rattle.std.specs.Prelude.{◌≡◌, ◌≤◌, ◌++◌, length, codes};
-ghost use Rattle.bus_text.specs.Texts.{line, number};
+ghost use Rattle.std.specs.Prelude.{◌≡◌};
 ghost use Rattle.bus_tool.specs.Due as spec;
 
-use bus_capture::CaptureRefusal;
 use bus_load::OfferPlace;
 use bus_plan::PlanRefusal;
 use bus_text::Line;
@@ -37,30 +35,6 @@ pub fn offer_line(place: OfferPlace) -> Line
     line.decimal(u64::from(place.frame));
     line.text(".item.");
     line.decimal(u64::from(place.item));
-    line.end();
-    line
-}
-
-/// The line of a refused capture.
-pub fn capture_refusal_line(refusal: CaptureRefusal) -> Line
-    ensures { result ≡ spec.capture_refusal_line refusal }
-{
-    match refusal {
-        CaptureRefusal::Header(offset) => offset_line(" header", offset),
-        CaptureRefusal::Byte(offset) => offset_line(" byte", offset),
-        CaptureRefusal::HalfTick(offset) => offset_line(" half-tick", offset),
-        CaptureRefusal::Long(offset) => offset_line(" long", offset),
-    }
-}
-
-fn offset_line(name: &str, offset: u64) -> Line
-    requires { length name.now ≤ 20 }
-    ensures { result ≡ line (codes "capture refused" ++ (name.now ++ number offset)) }
-{
-    let mut line = Line::new();
-    line.text("capture refused");
-    line.text(name);
-    line.number(offset);
     line.end();
     line
 }

@@ -1,7 +1,5 @@
 //! The top call.
 ghost use Rattle.std.specs.Prelude.{◌≡◌, ◌≤◌, map, string_bytes, vec_len};
-ghost use Rattle.bus_tool.specs.Answers.{WroteDue};
-ghost use Rattle.bus_tool.specs.Due.{words_refused};
 ghost use Rattle.bus_tool.specs.Ends.{Ends, EndsRun};
 ghost use Rattle.bus_tool.specs.Meaning.{meaning};
 
@@ -16,6 +14,7 @@ use crate::survey::survey_input;
 use crate::text::Text;
 use crate::words::{Command, command_of};
 use bus_outside::{Sink, Source};
+use bus_refusals::refuse_words;
 use bus_subsystem::Subsystem;
 use std::alloc::Global;
 
@@ -78,16 +77,6 @@ pub fn bus_tool<S: Source, K: Sink>(
             bus: None,
         },
         Some(Command::Bench { number, items }) => bench(alloc, number, items, sink),
-    }
-}
-
-fn refuse_words<K: Sink>(sink: &mut K) -> u8
-    ensures wrote { WroteDue (K.held sink.old) (K.held sink.new) (K.faults sink.old) (K.faults sink.new) result 2 words_refused }
-    ensures later { K.faults sink.old ≤ K.faults sink.new }
-{
-    match sink.write(b"words refused\n") {
-        Ok(()) => 2,
-        Err(_) => 5,
     }
 }
 
