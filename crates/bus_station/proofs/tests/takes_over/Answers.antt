@@ -38,17 +38,6 @@ take-requires c =
       omega (arith, here),
     )
 
-pub load-requires-clause-heard : goal.load-requires-clause-heard
-unfolding silence
-load-requires-clause-heard c =
-    let (plan, starts, loads, outside, past, st, here) = c.requires in
-    let heard = c.hear.ensures.stands plan starts loads outside past st in
-    let keeps = stands-keeps LAG plan starts loads outside _ past st in
-    let before = serving _ _ (sym c.in-Serving.is ∙ c.role-before.ensures plan starts loads outside past keeps) in
-    let later = stands-keeps LAG plan starts loads outside _ (silence ∷ past) heard in
-    let after = serving _ _ (sym c.in-Serving-role.is ∙ c.role.ensures plan starts loads outside (silence ∷ past) later) in
-    (plan, starts, loads, _, silence, past, c.take.ensures.stands plan starts loads outside silence past heard before after (omega (arith, here)))
-
 pub returns-then-items_left-gt0 : goal.returns-then-items_left-gt0
 unfolding silence
 returns-then-items_left-gt0 c =
