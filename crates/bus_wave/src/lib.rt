@@ -9,8 +9,11 @@
 pub mod delay_line;
 pub mod drawer;
 pub mod laws;
+pub mod line_marks;
 pub mod marking;
 pub mod marks;
+pub mod message_marks;
+pub mod message_names;
 pub mod text;
 pub mod tool;
 pub mod wave_lister;

@@ -1,9 +1,30 @@
 //! What each tick of a channel tells of its wave.
-ghost use Rattle.std.specs.Prelude.{◌≡◌, ◌==◌, ◌&&◌, is_none, ◌+◌, ◌-◌, ◌*◌, ◌<◌, ◌^◌, ◌∷◌, [], ℕ, List, length, take, true, false, is_some, option_to_list, IfSome, Option, None, Some, flat_map};
+ghost use Rattle.std.specs.Prelude.{
+  ◌≡◌,
+  ◌==◌,
+  ◌&&◌,
+  is_none,
+  ◌+◌,
+  ◌-◌,
+  ◌*◌,
+  ◌<◌,
+  ◌^◌,
+  ◌∷◌,
+  [],
+  ℕ,
+  List,
+  length,
+  take,
+  true,
+  false,
+  is_some,
+  Option,
+  None,
+  Some,
+  flat_map,
+};
 ghost use Rattle.bus_base.specs.declared.samples.Sample.{Sample};
 ghost use Rattle.bus_words.specs.declared.word.Word.{Word};
-ghost use Rattle.bus_formats.specs.Accepted.{HasKindRanges};
-ghost use Rattle.bus_formats.specs.Forms.{answers_of, second_command as second_of};
 ghost use Rattle.bus_line.specs.Past.{heard_or_now, runs, stopped};
 ghost use Rattle.bus_line.specs.declared.cutter.TheConstants.{LAG};
 ghost use Rattle.bus_monitor.specs.Awaited.{kept_in_time, open_of};
@@ -11,35 +32,20 @@ ghost use Rattle.bus_monitor.specs.Channels.{ChannelListerStands};
 ghost use Rattle.bus_monitor.specs.Messages.{message_of as message_in};
 ghost use Rattle.bus_monitor.specs.Progress.{closed_in_time};
 ghost use Rattle.bus_monitor.specs.Steps.{kept_with, burst_next, waits_in, is_over as is_over_with};
-ghost use Rattle.bus_wave.specs.Told as spec;
-ghost use Rattle.bus_wave.specs.Told.{
-  told_at,
-  told_closed,
-  told_begin,
-  told_stop,
-  told_opening,
-  told_now,
-  told_last,
-  told_open,
-  told_running_to,
-  told_rest,
-  told_second,
-  told_waiting,
-  gap_told,
-  terminal_of,
-  due,
-  open_to,
-};
+ghost use Rattle.bus_wave.specs.Told.{told_closed, told_opening, told_now, told_last, told_open, told_running_to, open_to};
 ghost use Rattle.bus_wave.specs.Steps.{told_nothing, told_index, told_next, told_sender_of};
 ghost use Rattle.bus_wave.specs.Delays.{Marked};
 
 use crate::delay_line::DelayLine;
-use crate::marks::{Commands, Mark, MessageMark, SenderMark, WordMark};
-use bus_base::{Channel, Part, Sample};
-use bus_formats::{Kind, Outcome, answers, first_command, second_command};
+use crate::line_marks::{
+    mark_begin, mark_if_closed, mark_name, mark_opening, mark_slot, mark_stop, mark_waiting,
+};
+use crate::message_marks::open_mark;
+use bus_base::{Channel, Sample};
+use bus_formats::answers;
 use bus_line::{Cut, LAG};
-use bus_monitor::{ChannelLister, Closed, Waiting, message_of};
-use bus_words::{Sync, Word};
+use bus_monitor::{ChannelLister, message_of};
+use bus_words::Word;
 
 /// Marks what one channel shows.
 #[derive(Drop)]
@@ -277,259 +283,5 @@ impl Marker {
             Some(waiting) => waiting.from(),
             None => stop,
         }
-    }
-}
-
-// A burst begins in this tick.
-#[inline(never)]
-fn mark_begin(
-    channel: Channel,
-    now: u64,
-    gap: Option<u64>,
-    waiting: &Option<Waiting>,
-    line: &mut DelayLine,
-)
-    requires { now < 2 ^ 60 }
-    ensures { Marked line.old line.new (now + 1) channel (told_begin gap now waiting.now) }
-{
-    match waiting {
-        None => {
-            line.mark(channel, now + 1, now, Mark::Message(MessageMark::Unknown));
-            line.mark(channel, now + 1, now, Mark::Sender(SenderMark::Unknown));
-            mark_gap(channel, now, gap, line);
-        }
-        Some(waiting) => {
-            line.mark(channel, now + 1, now, Mark::Sender(terminal(waiting)));
-            line.mark(
-                channel,
-                now + 1,
-                now,
-                Mark::Gap(now.saturating_sub(waiting.from())),
-            );
-        }
-    }
-}
-
-fn mark_gap(channel: Channel, now: u64, gap: Option<u64>, line: &mut DelayLine)
-    requires { now < 2 ^ 60 }
-    ensures { Marked line.old line.new (now + 1) channel (gap_told now gap) }
-{
-    if let Some(quiet) = gap {
-        line.mark(channel, now + 1, now, Mark::Gap(quiet));
-    }
-}
-
-// The terminal whose answer is awaited.
-fn terminal(waiting: &Waiting) -> SenderMark
-    ensures { result ≡ terminal_of (due waiting.now.part (answers_of waiting.now.kind)) }
-{
-    let answers = answers(waiting.kind());
-    let shape = match waiting.part() {
-        Part::Second => answers.second,
-        Part::Command | Part::First => answers.first,
-    };
-    match shape {
-        Some(shape) => SenderMark::Terminal(shape.address),
-        None => SenderMark::Unknown,
-    }
-}
-
-// The slot with this index ended, of the burst from a tick on.
-fn mark_slot(
-    channel: Channel,
-    ticks: u64,
-    first: u64,
-    index: u64,
-    opens: bool,
-    word: Option<Word>,
-    line: &mut DelayLine,
-)
-    ensures { first + 40 * index < 2 ^ 60 →
-        Marked line.old line.new ticks channel (told_at (first + 40 * index) (Mark.Word (spec.slot_mark opens word)) ∷ []) }
-{
-    let tick = first.saturating_add(index.saturating_mul(40));
-    line.mark(channel, ticks, tick, Mark::Word(slot_mark(opens, word)));
-}
-
-fn slot_mark(opens: bool, word: Option<Word>) -> WordMark
-    ensures { result ≡ spec.slot_mark opens word }
-{
-    match word {
-        Some(word) => word_mark(opens, word),
-        None => WordMark::Bad,
-    }
-}
-
-fn word_mark(opens: bool, word: Word) -> WordMark
-    ensures { result ≡ spec.sync_mark opens word.sync word.bits }
-{
-    match word.sync {
-        Sync::Datum => WordMark::Datum(word.bits),
-        Sync::Command => {
-            if opens {
-                WordMark::Command(word.bits)
-            } else {
-                WordMark::Other(word.bits)
-            }
-        }
-    }
-}
-
-// A burst ended before this tick, with so many ticks after its last whole slot.
-fn mark_stop(channel: Channel, ticks: u64, end: u64, rest: u8, line: &mut DelayLine)
-    ensures { Marked line.old line.new ticks channel (told_stop end rest) }
-{
-    mark_rest(channel, ticks, end, rest, line);
-    line.mark(channel, ticks, end, Mark::Word(WordMark::Nothing));
-    line.mark(channel, ticks, end, Mark::Sender(SenderMark::Nobody));
-}
-
-fn mark_rest(channel: Channel, ticks: u64, end: u64, rest: u8, line: &mut DelayLine)
-    ensures { Marked line.old line.new ticks channel (told_rest end rest) }
-{
-    if rest != 0 {
-        let tick = end.saturating_sub(u64::from(rest));
-        line.mark(channel, ticks, tick, Mark::Word(WordMark::Bad));
-    }
-}
-
-// A message that a burst opens, if it is of a known form.
-fn mark_opening(channel: Channel, ticks: u64, first: u64, kind: &Option<Kind>, line: &mut DelayLine)
-    requires { IfSome kind.now HasKindRanges }
-    ensures { first < 2 ^ 60 → Marked line.old line.new ticks channel (told_opening first kind.now) }
-{
-    if let Some(kind) = kind {
-        line.mark(channel, ticks, first, Mark::Sender(SenderMark::Controller));
-        mark_second(channel, ticks, first, kind, line);
-    }
-}
-
-fn mark_second(channel: Channel, ticks: u64, first: u64, kind: &Kind, line: &mut DelayLine)
-    requires { HasKindRanges kind.now }
-    ensures { first < 2 ^ 60 → Marked line.old line.new ticks channel (told_second first (second_of kind.now)) }
-{
-    if let Some(second) = second_command(kind) {
-        let tick = first.saturating_add(40);
-        line.mark(
-            channel,
-            ticks,
-            tick,
-            Mark::Word(WordMark::Command(second.bits())),
-        );
-    }
-}
-
-// A message that closed, if one did.
-fn mark_if_closed(channel: Channel, ticks: u64, closed: &Option<Closed>, line: &mut DelayLine)
-    ensures { Marked line.old line.new ticks channel (flat_map (told_closed LAG) (option_to_list closed.now)) }
-{
-    if let Some(closed) = closed {
-        mark_closed(channel, ticks, closed, line);
-    }
-}
-
-fn mark_closed(channel: Channel, ticks: u64, closed: &Closed, line: &mut DelayLine)
-    ensures { Marked line.old line.new ticks channel (told_closed LAG closed.now) }
-{
-    let mark = closed_mark(closed);
-    let to = drawn_to(closed);
-    mark_name(channel, ticks, closed.first, to, mark, line);
-}
-
-// A message has this name from its first tick to before another.
-fn mark_name(
-    channel: Channel,
-    ticks: u64,
-    first: u64,
-    to: u64,
-    mark: MessageMark,
-    line: &mut DelayLine,
-)
-    ensures { Marked line.old line.new ticks channel (told_at first (Mark.Message mark) ∷ told_at to (Mark.Message MessageMark.Nothing) ∷ []) }
-{
-    line.mark(channel, ticks, first, Mark::Message(mark));
-    line.mark(channel, ticks, to, Mark::Message(MessageMark::Nothing));
-}
-
-// A message that waits, if one does.
-fn mark_waiting(channel: Channel, ticks: u64, waiting: &Option<Waiting>, line: &mut DelayLine)
-    ensures { Marked line.old line.new ticks channel (told_waiting waiting.now) }
-{
-    if let Some(waiting) = waiting {
-        line.mark(
-            channel,
-            ticks,
-            waiting.first(),
-            Mark::Message(waiting_mark(waiting)),
-        );
-    }
-}
-
-fn commands_in(kind: &Kind) -> Commands
-    requires { HasKindRanges kind.now }
-    ensures { result ≡ spec.commands_in kind.now }
-{
-    let second = match second_command(kind) {
-        Some(second) => Some(second.bits()),
-        None => None,
-    };
-    Commands {
-        first: first_command(kind).bits(),
-        second,
-    }
-}
-
-fn closed_mark(closed: &Closed) -> MessageMark
-    ensures { result ≡ spec.closed_mark closed.now.came }
-{
-    match &closed.came {
-        Some(ended) => MessageMark::Ended(commands_in(&ended.kind), ended.outcome),
-        None => MessageMark::Unknown,
-    }
-}
-
-fn waiting_mark(waiting: &Waiting) -> MessageMark
-    ensures { result ≡ spec.waiting_mark waiting.now }
-{
-    MessageMark::Ended(
-        commands_in(waiting.kind()),
-        Outcome::BadReply(waiting.part()),
-    )
-}
-
-fn open_mark(waiting: &Option<Waiting>) -> MessageMark
-    ensures { result ≡ spec.open_mark waiting.now }
-{
-    match waiting {
-        Some(waiting) => MessageMark::Open(Some(commands_in(waiting.kind()))),
-        None => MessageMark::Open(None),
-    }
-}
-
-fn drawn_to(closed: &Closed) -> u64
-    ensures { result ≡ spec.drawn_to LAG closed.now }
-{
-    if is_unanswered(closed) {
-        closed.tick
-    } else {
-        closed.tick.saturating_sub(u64::from(LAG))
-    }
-}
-
-fn is_unanswered(closed: &Closed) -> bool
-    ensures { result ≡ spec.is_unanswered closed.now.came }
-{
-    match &closed.came {
-        Some(ended) => is_no_response(ended.outcome),
-        None => false,
-    }
-}
-
-fn is_no_response(outcome: Outcome) -> bool
-    ensures { result ≡ spec.is_no_response outcome }
-{
-    match outcome {
-        Outcome::NoResponse(_) => true,
-        _ => false,
     }
 }

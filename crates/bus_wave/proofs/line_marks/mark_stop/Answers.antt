@@ -4,7 +4,7 @@ use Rattle.bus_wave.specs.declared.marks.Mark.TheVariants.{Word, Sender}
 use Rattle.bus_wave.specs.declared.marks.WordMark.TheVariants as words
 use Rattle.bus_wave.specs.declared.marks.SenderMark.TheVariants as senders
 use Rattle.bus_wave.proofs.DelayLaws.{marked-then}
-use Rattle.bus_wave.proofs.marking.mark_stop.Goals as goal
+use Rattle.bus_wave.proofs.line_marks.mark_stop.Goals as goal
 
 pub returns : goal.returns
 returns c =

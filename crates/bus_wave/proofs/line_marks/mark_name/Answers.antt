@@ -3,7 +3,7 @@ use Rattle.bus_wave.specs.Told.{told_at}
 use Rattle.bus_wave.specs.declared.marks.Mark.TheVariants.{Message}
 use Rattle.bus_wave.specs.declared.marks.MessageMark.TheVariants as messages
 use Rattle.bus_wave.proofs.DelayLaws.{marked-then}
-use Rattle.bus_wave.proofs.marking.mark_name.Goals as goal
+use Rattle.bus_wave.proofs.line_marks.mark_name.Goals as goal
 
 pub returns : goal.returns
 returns c =

@@ -3,7 +3,7 @@ use Rattle.bus_wave.specs.Delays.{Marked}
 use Rattle.bus_wave.specs.Told.{told_at}
 use Rattle.bus_wave.specs.declared.marks.Mark.TheVariants.{Word}
 use Rattle.bus_wave.specs.declared.marks.WordMark.{WordMark}
-use Rattle.bus_wave.proofs.marking.mark_slot.Goals as goal
+use Rattle.bus_wave.proofs.line_marks.mark_slot.Goals as goal
 
 pub returns : goal.returns
 returns c short =

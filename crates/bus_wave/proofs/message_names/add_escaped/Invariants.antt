@@ -1,7 +1,7 @@
 use Rattle.std.proofs.Common.{◌≡◌, ◌≤◌, ◌+◌, ◌*◌, ◌++◌, length}
 use Rattle.std.specs.Prelude.{drop}
 use Rattle.bus_wave.specs.Texts.{escaped}
-use Rattle.bus_wave.proofs.text.add_escaped.Given as goal
+use Rattle.bus_wave.proofs.message_names.add_escaped.Given as goal
 
 abbrev pub invariant-loop-byte : goal.invariant-loop-byte
 invariant-loop-byte l =

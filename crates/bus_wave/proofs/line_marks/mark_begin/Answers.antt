@@ -8,7 +8,7 @@ use Rattle.bus_wave.specs.declared.marks.MessageMark.TheVariants as messages
 use Rattle.bus_wave.specs.declared.marks.SenderMark.{SenderMark}
 use Rattle.bus_wave.specs.declared.marks.SenderMark.TheVariants as senders
 use Rattle.bus_wave.proofs.DelayLaws.{marked-then}
-use Rattle.bus_wave.proofs.marking.mark_begin.Goals as goal
+use Rattle.bus_wave.proofs.line_marks.mark_begin.Goals as goal
 
 pub returns-in-None : goal.returns-in-None
 returns-in-None c =
