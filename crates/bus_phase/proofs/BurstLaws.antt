@@ -1,17 +1,17 @@
 -- A burst within the standard's tolerance is read exactly.
-use Rattle.std.proofs.Common.{◌≡◌, ℕ, zero, suc, ◌+◌, ◌-◌, ◌*◌, ◌/◌, ◌<◌, ◌≤◌, min, max, List, [], ◌∷◌, ◌++◌, length, take, drop, refl, ap, sym, ◌∙◌, subst, arith, append_assoc, append-nil, length-append}
+use Rattle.std.proofs.Common.{◌≡◌, ℕ, zero, suc, ◌+◌, ◌-◌, ◌≤◌, max, List, [], ◌∷◌, ◌++◌, length, take, drop, refl, ap, sym, ◌∙◌, subst, arith, append_assoc, append-nil, length-append}
 use Rattle.std.specs.Prelude.{replicate, true, false, nat_lt, nat_le, Option, Some, None}
 use Rattle.std.proofs.lemmas.List.{take-append-drop, length-replicate, length-drop, take_all}
 use Rattle.std.proofs.lemmas.Bool.Decides.{nat_tests}
 use Rattle.bus_base.specs.declared.samples.Sample.{Sample}
 use Rattle.bus_base.specs.declared.samples.Sample.TheVariants.{Plus, Minus, Quiet}
 use Rattle.bus_base.specs.Samples.{exchanged, is_quiet}
-use Rattle.bus_phase.specs.Times.{nearest, error_of, is_good}
-use Rattle.bus_phase.specs.Rows.{RowData, fit, first_sample, after_first, put, put_at, place_of}
+use Rattle.bus_phase.specs.Times.{nearest, error_of}
+use Rattle.bus_phase.specs.Rows.{RowData, fit, put, put_at, place_of}
 use Rattle.bus_phase.specs.Following.{tick_put, followed}
 use Rattle.bus_phase.specs.Anchors.{reference}
-use Rattle.bus_phase.specs.Phases.{moment_on, track_told}
-use Rattle.bus_phase.specs.Bursts.{Crossing, track_in_burst, samples_told, track_after, samples_over, run_samples, IsWithinTolerance, follower_at_lead, follower_in_burst, first_of}
+use Rattle.bus_phase.specs.Phases.{no_changes}
+use Rattle.bus_phase.specs.Bursts.{Crossing, moment_on, track_in_burst, samples_told, track_after, samples_over, run_samples, IsWithinTolerance, follower_at_lead, follower_in_burst, first_of}
 use Rattle.bus_phase.specs.declared.anchor.Anchor.{Anchor}
 use Rattle.bus_phase.specs.declared.follower.Follower.{Follower}
 use Rattle.bus_phase.specs.declared.track.Track.{Track}
@@ -20,6 +20,7 @@ use Rattle.bus_phase.specs.declared.track.Track.{Track}
 abbrev burst_track : Sample → ℕ → ℕ → ℕ → List Sample → Track
 burst_track level tick before now waiting = record {
   cleaner = record { sure = exchanged level; until = now; level = level; since = now; is_sure = false };
+  changes = no_changes;
   follower = record {
     cleaned = exchanged level;
     since = before;
@@ -33,6 +34,7 @@ burst_track level tick before now waiting = record {
 abbrev crossed_track : Sample → Sample → ℕ → ℕ → ℕ → ℕ → List Sample → Track
 crossed_track level next settled tick now at waiting = record {
   cleaner = record { sure = level; until = at; level = next; since = at; is_sure = false };
+  changes = no_changes;
   follower = record {
     cleaned = level;
     since = now;
@@ -104,6 +106,7 @@ crossed_minus tick settled before now at other waiting none same order good late
 abbrev with_row : Sample → ℕ → RowData → ℕ → ℕ → Track
 with_row next tick row now at = record {
   cleaner = record { sure = exchanged next; until = at; level = next; since = at; is_sure = false };
+  changes = no_changes;
   follower = record { cleaned = exchanged next; since = now; lead = None; anchor = Some record { tick = tick; at = now }; row = row };
 }
 

@@ -1,14 +1,13 @@
 -- A burst that is recorded within the standard's tolerance (MIL-STD-1553B 4.5.2.1.4, 4.3.3.3): no run of it is unsure, and each crossing lies within 125 ns
 -- of a whole number of ticks from the one before.
-use Rattle.std.specs.Prelude.{◌≡◌, ℕ, zero, suc, ◌+◌, ◌-◌, ◌≤◌, max, false, List, [], ◌∷◌, ◌++◌, length, replicate, Option, Some, None}
+use Rattle.std.specs.Prelude.{ℕ, zero, suc, ◌+◌, ◌-◌, ◌≤◌, max, false, List, [], ◌∷◌, ◌++◌, length, replicate, Option, Some, None}
 use Rattle.bus_base.specs.declared.samples.Sample.{Sample}
 use Rattle.bus_base.specs.declared.samples.Sample.TheVariants.{Quiet}
 use Rattle.bus_base.specs.Samples.{exchanged}
 use Rattle.bus_phase.specs.Times.{nearest, error_of}
 use Rattle.bus_phase.specs.Rows.{RowData, first_sample, after_first}
-use Rattle.bus_phase.specs.Following.{followed}
 use Rattle.bus_phase.specs.Anchors.{reference}
-use Rattle.bus_phase.specs.Phases.{moment_on, track_told}
+use Rattle.bus_phase.specs.Phases.{no_changes, noticed, change_followed, track_told}
 use Rattle.bus_phase.specs.declared.anchor.Anchor.{Anchor}
 use Rattle.bus_phase.specs.declared.follower.Follower.{Follower}
 use Rattle.bus_phase.specs.declared.track.Track.{Track}
@@ -19,10 +18,15 @@ pub record Crossing : Type 0 where
   pub other : Option Anchor
   pub told : ℕ
 
+-- a moment of a channel, whose first changes are followed before the next; how long each waits doesn't matter, as any number of ticks may be told after it
+abbrev pub moment_on : ℕ → Sample → Option Anchor → ℕ → Track → Track
+moment_on now level other settled t = change_followed other settled (noticed now level t)
+
 -- a channel in a burst, at the moment of a crossing to this level: the crossing before is the anchor, and the row ends in its tick
 abbrev pub track_in_burst : Sample → ℕ → ℕ → ℕ → List Sample → Track
 track_in_burst level settled before now waiting = record {
   cleaner = record { sure = exchanged level; until = now; level = level; since = now; is_sure = false };
+  changes = no_changes;
   follower = record {
     cleaned = exchanged level;
     since = before;

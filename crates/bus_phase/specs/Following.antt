@@ -7,7 +7,7 @@ use Rattle.bus_base.specs.declared.samples.Sample.{Sample}
 use Rattle.bus_base.specs.declared.samples.Sample.TheVariants.{Quiet}
 use Rattle.bus_base.specs.Samples.{is_quiet}
 use Rattle.bus_phase.specs.Times.{nearest, is_good}
-use Rattle.bus_phase.specs.Rows.{RowData, put, place_of}
+use Rattle.bus_phase.specs.Rows.{put, place_of}
 use Rattle.bus_phase.specs.Anchors.{reference, tick_within}
 use Rattle.bus_phase.specs.declared.anchor.Anchor.{Anchor}
 use Rattle.bus_phase.specs.declared.cleaner.Change.{Change}

@@ -1,5 +1,5 @@
 -- The samples of a channel that are not yet told: those of single ticks, and the level from then on.
-use Rattle.std.specs.Prelude.{ℕ, zero, suc, ◌-◌, min, List, [], ◌∷◌, ◌++◌, length, take, drop, replicate}
+use Rattle.std.specs.Prelude.{ℕ, ◌-◌, min, List, [], ◌∷◌, ◌++◌, length, take, drop, replicate}
 use Rattle.bus_base.specs.declared.samples.Sample.{Sample}
 
 -- the samples of the ticks from the first that isn't told, and the level of all later ones

@@ -14,6 +14,15 @@ pub struct Change {
     pub level: Sample,
 }
 
+impl Default for Change {
+    fn default() -> Change {
+        Change {
+            at: 0,
+            level: Sample::Quiet,
+        }
+    }
+}
+
 /// Finds the sure runs of a channel's level. It keeps the last of them and the run that goes on.
 #[derive(Clone, Copy, Debug)]
 pub struct Cleaner {

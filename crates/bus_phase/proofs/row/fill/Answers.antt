@@ -1,6 +1,5 @@
-use Rattle.std.proofs.Common.{◌≡◌, ◌+◌, ◌-◌, ◌≤◌, ◌<◌, ◌++◌, ◌∷◌, [], length, take, refl, ap, sym, ◌∙◌, arith, append-nil}
-use Rattle.std.specs.Prelude.{replicate}
-use Rattle.std.proofs.lemmas.List.{take_more_set, take_all, length-take-le}
+use Rattle.std.proofs.Common.{◌≡◌, ◌+◌, ◌-◌, ◌<◌, length, take, sym, ◌∙◌, arith, append-nil}
+use Rattle.std.proofs.lemmas.List.{take_more_set}
 use Rattle.bus_phase.proofs.RowLaws.{level_more, fit_long}
 use Rattle.bus_phase.proofs.row.fill.Goals as goal
 

@@ -1,4 +1,4 @@
-use Rattle.std.proofs.Common.{◌≡◌, ◌≤◌, length, refl, ap, sym, ◌∙◌, arith, take}
+use Rattle.std.proofs.Common.{◌≤◌, length, refl, arith}
 use Rattle.bus_phase.proofs.RowLaws.{rest_of_front}
 use Rattle.bus_phase.proofs.row.Row.tell.Goals as goal
 
