@@ -1,5 +1,5 @@
 //! Both channels of a recording.
-ghost use Rattle.std.specs.Prelude.{◌≡◌, ◌≤◌, ◌<◌, ◌==◌, min, max};
+ghost use Rattle.std.specs.Prelude.{◌≡◌, ◌≤◌, ◌<◌, ◌-◌, ◌==◌, min, max};
 ghost use Rattle.bus_phase.specs.Phases as spec;
 
 use crate::anchor::{latest, tick_at_end, tick_in_silence};
@@ -165,6 +165,13 @@ impl Phase {
         let last_b = self.b.follower.end_tick(self.settled);
         let last = tick_at_end(silence, now).max(last_a.max(last_b));
         self.due = more_due(self.due, last);
+    }
+
+    /// How many ticks are due that aren't told.
+    pub fn ticks_due(&self) -> u32
+        ensures { result ≡ self.now.due - self.now.settled }
+    {
+        self.due - self.settled
     }
 
     /// What the channels show in the next tick, if one is due.
