@@ -1,0 +1,6 @@
+pub mod CommandRead
+pub mod AnswerRead
+pub mod AnswerSorts
+pub mod AnswerDue
+pub mod StationDue
+pub mod MessageRow
