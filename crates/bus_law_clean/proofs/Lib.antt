@@ -4,3 +4,4 @@ pub mod AnswerSorts
 pub mod AnswerDue
 pub mod StationDue
 pub mod MessageRow
+pub mod SecondDue

@@ -82,7 +82,7 @@ is-status terminal r acceptance low =
 
 -- ---- by the kind of the message
 
-shape-one : (to count : ℕ) → to ≢ 31 → answer_of to count ≡ Some record { address = to; count = count }
+pub shape-one : (to count : ℕ) → to ≢ 31 → answer_of to count ≡ Some record { address = to; count = count }
 shape-one to count one =
     let test : (to == 31) ≡ false = grind (arith, nat_tests, one) in
     skips {X = Option Shape} (to == 31) None (Some record { address = to; count = count }) test
