@@ -5,3 +5,4 @@ pub mod AnswerDue
 pub mod StationDue
 pub mod MessageRow
 pub mod SecondDue
+pub mod MessageKeeps
