@@ -6,3 +6,4 @@ pub mod StationDue
 pub mod MessageRow
 pub mod SecondDue
 pub mod MessageKeeps
+pub mod AnswersRight

@@ -183,3 +183,48 @@ module _ (k : ℕ) (low : k ≤ 3) (row : List WholeBurst) (c : Channel) (start 
               runs_on = refl;
               passes = λ p is. absurd (none-some p is);
             })
+
+        -- a second one came
+        module _ (status : ℕ) (reads : read_answer kind First (whole_slots words-a) 0 ≡ Good status) (second-shape : Shape)
+            (awaited : (answers_of kind).second ≡ Some second-shape) (start-b : ℕ) (words-b : List Word) (b : IsSentWell kind Second end-a start-b words-b)
+            (second : ShownAnswer) where
+          abbrev pub second-burst : WholeBurst
+          second-burst = whole_burst c start-b words-b
+
+          abbrev pub end-b : ℕ
+          end-b = start-b + word_ticks words-b
+
+          asks-again : waits_on k c (first-burst ∷ command ∷ row) ≡ Some (kept-second status)
+          asks-again = good-waits status (Some second-shape) awaited reads
+
+          apart-b : IsApart k (first-burst ∷ command ∷ row) start-b
+          apart-b = after-two start-b b.early
+
+          reading-none : (reading : Reading) → waits_after k (kept-second status) end-b reading ≡ None
+          reading-none (Good s) = refl
+          reading-none (Ends outcome s) = refl
+
+          closed : waits_on k c (second-burst ∷ first-burst ∷ command ∷ row) ≡ None
+          closed =
+              answer-waits k c (first-burst ∷ command ∷ row) (kept-second status) asks-again start-b words-b b.soon b.due b.short apart-b
+              ∙ reading-none (read_answer kind Second (whole_slots words-b) 0)
+
+          both-keep : (ending : Ending) → ending.runs_on ≡ None → ending.passes ≡ None →
+              MessageKeeps k row c (second-burst ∷ first-burst ∷ command ∷ []) end-b ending
+          both-keep ending none stays = record {
+            in_order = (answer-follows k c (first-burst ∷ command ∷ row) (kept-second status) asks-again start-b words-b b.soon b.due b.short apart-b, order-two);
+            apart = λ next is. omega (arith, is, low);
+            waits = λ w is. absurd (none-some w (sym closed ∙ is));
+            others = λ e other. skips (same_channel c e) _ _ other ∙ beside-two e other;
+            runs_on = none;
+            passes = λ p is. absurd (none-some p (sym stays ∙ is));
+          }
+
+          by-reading : (last : ℕ) (reading : Reading) → MessageKeeps k row c (second-burst ∷ first-burst ∷ command ∷ []) end-b (second_read k kind status last reading)
+          by-reading last (Good s) = both-keep (second_read k kind status last (Good s)) refl refl
+          by-reading last (Ends outcome s) = both-keep (second_read k kind status last (Ends outcome s)) refl refl
+
+          pub with-second : MessageKeeps k row c (second-burst ∷ first-burst ∷ command ∷ []) end-b (first_read k kind first (Some second) (Good status))
+          with-second =
+              subst (λ s. MessageKeeps k row c (second-burst ∷ first-burst ∷ command ∷ []) end-b (good_ending k kind status first (Some second) s)) (sym awaited)
+              (by-reading (burst_end second.burst) (read_answer kind Second second.burst.slots second.burst.rest))
