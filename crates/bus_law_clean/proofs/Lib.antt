@@ -7,3 +7,4 @@ pub mod MessageRow
 pub mod SecondDue
 pub mod MessageKeeps
 pub mod AnswersRight
+pub mod MessageJudged

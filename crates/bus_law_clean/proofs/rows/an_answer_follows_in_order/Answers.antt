@@ -1,3 +1,4 @@
+use Rattle.bus_law_clean.proofs.MessageJudged.{this}
 use Rattle.bus_law_clean.proofs.AnswersRight.{second-right}
 use Rattle.bus_law_clean.proofs.MessageKeeps.{no-second}
 use Rattle.bus_law_clean.proofs.SecondDue.{second-due}
