@@ -1,29 +1,21 @@
 -- The answer of each terminal to a command that was sent whole is one that is due.
-use Rattle.std.proofs.Common.{◌≡◌, ◌≢◌, ◌⊎◌, inl, inr, ℕ, ◌/◌, ◌%◌, ◌<◌, ◌≤◌, List, [], ◌∷◌, length, map, refl, ap, sym, subst, ◌∙◌, arith}
+use Rattle.std.proofs.Common.{◌≡◌, ◌≢◌, ◌⊎◌, inl, inr, ℕ, ◌<◌, ◌≤◌, List, [], ◌∷◌, length, refl, ap, sym, subst, ◌∙◌, arith}
 use Rattle.std.proofs.lemmas.Bool.{cases_eq, cases_lt, true≢false}
 use Rattle.std.proofs.lemmas.Bool.Decides.{nat_tests}
-use Rattle.std.proofs.lemmas.Option.{none-some}
-use Rattle.std.specs.Option.{option_or}
-use Rattle.std.specs.Prelude.{Bool, true, false, not, ◌&&◌, ◌||◌, ◌==◌, nat_lt, if◌then◌else◌, Option, Some, None, option_to_list}
-use Rattle.bus_base.specs.declared.samples.Channel.{Channel}
+use Rattle.std.specs.Prelude.{Bool, true, false, not, ◌&&◌, ◌||◌, ◌==◌, nat_lt, if◌then◌else◌, Option}
 use Rattle.bus_base.specs.declared.samples.Part.TheVariants.{First}
-use Rattle.bus_words.specs.Fields.{address_of, command_bits, flags_in, is_broadcast, is_clean, is_mode, is_transmit, field_of, sub_of, word_count}
-use Rattle.bus_words.specs.declared.status.Flags.{Flags}
-use Rattle.bus_words.specs.declared.word.Word.{Word}
-use Rattle.bus_words.proofs.FlagBits.{status_bits_of}
-use Rattle.bus_formats.specs.Accepted.{HasKindRanges, HasReceiveRanges, HasTransmitRanges, HasModeRanges}
-use Rattle.bus_formats.specs.Codes.{dynamic_bus_control, transmit_status_word, reset_remote_terminal, transmit_last_command, transmit_vector_word, transmit_bit_word, carried, mode_of}
+use Rattle.bus_words.specs.Fields.{flags_in, is_mode, is_transmit, field_of, sub_of, word_count}
+use Rattle.bus_formats.specs.Codes.{dynamic_bus_control, transmit_status_word, transmit_last_command, transmit_vector_word, transmit_bit_word, carried, mode_of}
 use Rattle.bus_formats.specs.declared.form.Carries.{Carries}
 use Rattle.bus_formats.specs.declared.form.Carries.TheVariants.{Nothing, FromTerminal, ToTerminal}
-use Rattle.bus_formats.specs.Forms.{command_word, data_word, command_words, mode_count, answer_of}
-use Rattle.bus_formats.specs.Plans.{TerminalData, ItemData}
-use Rattle.bus_formats.specs.Readings.{status_alone, status_full, read_offer, read_status, read_mode, read_data, read_by, read_shape, read_answer}
+use Rattle.bus_formats.specs.Forms.{mode_count}
+use Rattle.bus_formats.specs.Plans.{TerminalData}
+use Rattle.bus_formats.specs.Readings.{status_alone, status_full, read_offer, read_status, read_mode, read_by}
 use Rattle.bus_formats.specs.declared.form.Shape.{Shape}
 use Rattle.bus_formats.specs.declared.log.Registers.{Registers}
-use Rattle.bus_formats.specs.declared.plan.Kind.{Kind}
-use Rattle.bus_formats.specs.declared.plan.Kind.TheVariants.{Receive, Transmit, Relay, Mode}
+use Rattle.bus_formats.specs.declared.plan.Kind.TheVariants.{Mode}
 use Rattle.bus_model.specs.Commands.{has_code, is_illegal}
-use Rattle.bus_model.specs.Memory.{Memory, status_of, sending_on}
+use Rattle.bus_model.specs.Memory.{Memory, sending_on}
 use Rattle.bus_model.specs.Orders.{answer_data, filled}
 use Rattle.bus_law_duties.proofs.Fields.{skips, takes}
 use Rattle.bus_law_plans.proofs.Lists.{either-by}
@@ -145,10 +137,10 @@ module _ (terminal : TerminalData) (memory : Memory) (bits : ℕ) (r : Registers
     read-due words sort =
         either-by IsDue (code == dynamic_bus_control) (read_offer First (status_alone shape (shown number words) 0)) _
         (λ offer. (let zero-is = same-number code 0 offer in
-          subst (λ ws. IsDue (read_offer First (status_alone shape (shown number ws) 0)))
-          (sym (none-sent words sort (λ e. omega (arith, e, zero-is)) (λ e. omega (arith, e, zero-is)) (λ e. omega (arith, e, zero-is)))) (offer-due First shape number is)))
+        subst (λ ws. IsDue (read_offer First (status_alone shape (shown number ws) 0)))
+        (sym (none-sent words sort (λ e. omega (arith, e, zero-is)) (λ e. omega (arith, e, zero-is)) (λ e. omega (arith, e, zero-is)))) (offer-due First shape number is)))
         (λ other. either-by IsDue (transmit && (code == transmit_status_word)) (read_status First (status_alone shape (shown number words) 0)) _
         (λ asks. (let two-is = same-number code 2 (and-true transmit (code == transmit_status_word) asks) in
-          subst (λ ws. IsDue (read_status First (status_alone shape (shown number ws) 0)))
-          (sym (none-sent words sort (λ e. omega (arith, e, two-is)) (λ e. omega (arith, e, two-is)) (λ e. omega (arith, e, two-is)))) (status-due First shape number is)))
+        subst (λ ws. IsDue (read_status First (status_alone shape (shown number ws) 0)))
+        (sym (none-sent words sort (λ e. omega (arith, e, two-is)) (λ e. omega (arith, e, two-is)) (λ e. omega (arith, e, two-is)))) (status-due First shape number is)))
         (λ no-status. mode-due words sort))

@@ -6,9 +6,9 @@ use Rattle.std.specs.Prelude.{Bool, true, false, not, ◌&&◌, ◌||◌, ◌==�
 use Rattle.bus_base.specs.declared.samples.Part.{Part}
 use Rattle.bus_words.specs.Fields.{address_of, is_clean, flags_in}
 use Rattle.bus_words.specs.declared.word.Word.{Word}
-use Rattle.bus_formats.specs.Forms.{command_word, data_word}
+use Rattle.bus_formats.specs.Forms.{data_word}
 use Rattle.bus_formats.specs.Readings.{data_in, status_from, status_before, status_alone, status_full, bad_reply, read_refusal, read_offer, read_status, read_mode, read_full, read_data}
-use Rattle.bus_formats.specs.declared.form.Outcome.TheVariants.{Declined, Passed, Illegal, Busy, BadReply}
+use Rattle.bus_formats.specs.declared.form.Outcome.TheVariants.{Declined, Passed, Illegal, Busy}
 use Rattle.bus_formats.specs.declared.form.Reading.{Reading}
 use Rattle.bus_formats.specs.declared.form.Reading.TheVariants.{Good, Ends}
 use Rattle.bus_formats.specs.declared.form.Shape.{Shape}

@@ -1,34 +1,31 @@
 -- What a terminal answers to a command with its data words, by what became of the command.
-use Rattle.std.proofs.Common.{◌≡◌, ◌⊎◌, inl, inr, ℕ, ◌<◌, ◌≤◌, List, [], ◌∷◌, length, refl, ap, sym, subst, ◌∙◌, arith}
-use Rattle.std.proofs.lemmas.Bool.{cases_Bool, cases_eq, true≢false}
+use Rattle.std.proofs.Common.{◌≡◌, ℕ, ◌≤◌, List, [], ◌∷◌, length, refl, ap, sym, subst, ◌∙◌, arith}
+use Rattle.std.proofs.lemmas.Bool.{true≢false}
 use Rattle.std.proofs.lemmas.Bool.Decides.{nat_tests}
-use Rattle.std.specs.Prelude.{Bool, true, false, not, ◌&&◌, ◌||◌, ◌==◌, nat_lt, if◌then◌else◌, Option, None}
+use Rattle.std.specs.Prelude.{Bool, true, false, not, ◌&&◌, ◌||◌, ◌==◌, if◌then◌else◌, Option, None}
 use Rattle.bus_base.specs.Samples.{other_of}
 use Rattle.bus_base.specs.declared.samples.Channel.{Channel}
 use Rattle.bus_base.specs.declared.samples.Channel.TheVariants.{A, B}
 use Rattle.bus_base.specs.declared.samples.Part.{Part}
-use Rattle.bus_base.specs.declared.samples.Part.TheVariants.{First}
 use Rattle.bus_words.specs.Fields.{flags_in, is_broadcast, is_mode, is_transmit, field_of, word_count, sub_of}
 use Rattle.bus_words.specs.declared.status.Flags.{Flags}
 use Rattle.bus_words.specs.declared.word.Word.{Word}
 use Rattle.bus_words.proofs.FlagBits.{status_bits_of, flags_are}
-use Rattle.bus_formats.specs.Codes.{dynamic_bus_control, transmit_status_word, transmitter_shutdown, override_transmitter_shutdown, inhibit_terminal_flag, override_inhibit_terminal_flag, synchronize_with_data, reset_remote_terminal, transmit_last_command, transmit_vector_word, transmit_bit_word, carried, mode_of}
-use Rattle.bus_formats.specs.Forms.{mode_count}
+use Rattle.bus_formats.specs.Codes.{transmit_status_word, transmitter_shutdown, override_transmitter_shutdown, inhibit_terminal_flag, override_inhibit_terminal_flag, synchronize_with_data, reset_remote_terminal, transmit_last_command, transmit_vector_word, transmit_bit_word, mode_of}
 use Rattle.bus_formats.specs.Plans.{TerminalData}
-use Rattle.bus_formats.specs.Readings.{status_alone, status_full, read_offer, read_status, read_mode, read_data, read_by}
+use Rattle.bus_formats.specs.Readings.{status_alone, status_full, read_data}
 use Rattle.bus_formats.specs.declared.form.Shape.{Shape}
 use Rattle.bus_formats.specs.declared.log.Registers.{Registers}
-use Rattle.bus_formats.specs.declared.plan.Kind.TheVariants.{Mode}
 use Rattle.bus_model.specs.Commands.{Tail, unexpected, relay_from, carries, has_code, is_illegal}
 use Rattle.bus_model.specs.Memory.{Memory, status_of, sending_on, is_listed, with_off}
-use Rattle.bus_model.specs.Orders.{Duty, owes, promises, Obeyed, Taken, answer, answer_data, accepts, filled, marked, mode_effect, reset, leaves, answered, block_taken, obey_data, obey_tail, after_taking}
+use Rattle.bus_model.specs.Orders.{owes, promises, Obeyed, Taken, answer, answer_data, accepts, filled, marked, mode_effect, reset, leaves, answered, block_taken, obey_data, obey_tail, after_taking}
 use Rattle.bus_law_duties.specs.Words.{with_data}
 use Rattle.bus_law_duties.proofs.Fields.{skips, takes, no-code}
 use Rattle.bus_law_duties.proofs.Owed.{owing, kept-registers}
 use Rattle.bus_law_duties.proofs.Owes.{free-owes}
 use Rattle.bus_law_plans.proofs.Lists.{either-by}
 use Rattle.bus_law_plans.proofs.Relays.{filled-long}
-use Rattle.bus_law_clean.proofs.AnswerRead.{IsDue, IsStatus, shown, data-alone, data-whole, offer-due, status-due, mode-alone, mode-whole}
+use Rattle.bus_law_clean.proofs.AnswerRead.{IsDue, IsStatus, shown, data-alone, data-whole}
 
 -- the effect of a mode command leaves message error as it is
 off-error : (r : Registers) (c : Channel) (b : Bool) → (with_off r c b).message_error ≡ r.message_error

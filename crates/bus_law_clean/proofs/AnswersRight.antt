@@ -1,41 +1,27 @@
 -- The answers of a message that no fault strikes, as they are shown.
-use Rattle.std.proofs.Common.{◌≡◌, ◌≢◌, ◌⊎◌, inl, inr, ℕ, ◌+◌, ◌-◌, ◌*◌, ◌<◌, ◌≤◌, List, [], ◌∷◌, length, map, refl, ap, sym, subst, ◌∙◌, arith}
+use Rattle.std.proofs.Common.{◌≡◌, ℕ, ◌+◌, ◌≤◌, List, [], ◌∷◌, map, refl, ap, sym, subst, ◌∙◌, arith}
 use Rattle.std.proofs.lemmas.Option.{none-some, same_Some}
 use Rattle.std.specs.Option.{option_or}
 use Rattle.std.specs.List.{AllByRecursion as Each}
 use Rattle.std.specs.Prelude.{Bool, Option, Some, None}
 use Rattle.bus_base.specs.declared.samples.Channel.{Channel}
-use Rattle.bus_base.specs.declared.samples.Part.{Part}
-use Rattle.bus_base.specs.declared.samples.Part.TheVariants.{First, Second}
-use Rattle.bus_words.specs.declared.word.Word.{Word}
-use Rattle.bus_line.specs.Channels.{WholeBurst}
+use Rattle.bus_base.specs.declared.samples.Part.TheVariants.{First}
 use Rattle.bus_formats.specs.Accepted.{HasKindRanges}
-use Rattle.bus_formats.specs.Forms.{command_words, answers_of}
 use Rattle.bus_formats.specs.Plans.{StationData, ItemData}
 use Rattle.bus_formats.specs.Readings.{read_answer}
-use Rattle.bus_formats.specs.declared.form.Reading.TheVariants.{Good}
-use Rattle.bus_formats.specs.declared.form.Shape.{Shape}
 use Rattle.bus_formats.specs.declared.plan.Kind.{Kind}
 use Rattle.bus_model.specs.Memory.{TimedLoad}
 use Rattle.bus_model.specs.Message.{Present, address_of_station, After, after_command, after_answer, command_burst, answer_for, answer_to}
 use Rattle.bus_model.specs.Orders.{Duty, free, owes, promises, due_after}
-use Rattle.bus_model.specs.Strikes.{struck, ShownBurst, burst_end, Answer, ShownAnswer, shown_answer}
+use Rattle.bus_model.specs.Strikes.{ShownBurst, burst_end, Answer}
 use Rattle.bus_law_duties.specs.Words.{whole_slots, with_data}
-use Rattle.bus_law_duties.proofs.Obeys.{after}
 use Rattle.bus_law_duties.proofs.Owes.{OwesTo, owes-to}
 use Rattle.bus_law_duties.proofs.Stays.{command-stays, answer-stays}
-use Rattle.bus_law_plans.proofs.Answered.{IsShownOf}
 use Rattle.bus_law_plans.proofs.Lists.{each-weaker, each-map}
-use Rattle.bus_law_clean.specs.Bursts.{word_ticks, whole_burst}
+use Rattle.bus_law_clean.specs.Messages.{IsPrompt}
 use Rattle.bus_law_clean.proofs.AnswerRead.{IsDue, shown}
 use Rattle.bus_law_clean.proofs.SecondDue.{IsSecond, second-due}
-use Rattle.bus_law_clean.proofs.StationDue.{struck-none, station-due}
-
--- the terminal is one, and answers in time
-pub record IsPrompt (s : Present) : Type 0 where
-  pub address : address_of_station s ≤ 31
-  pub least : 8 ≤ s.plan.terminal.delay
-  pub most : s.plan.terminal.delay ≤ 24
+use Rattle.bus_law_clean.proofs.StationDue.{station-due}
 
 -- an answer after a burst with this end: in time
 pub record IsTimely (end : ℕ) (c : Channel) (a : Answer) : Type 0 where
@@ -97,8 +83,7 @@ module _ (k : ℕ) (loads : List TimedLoad) (c : Channel) (start : ℕ) (item : 
   first-of s prompt a is =
       let o = owed-by told (after_command k loads told s) (after_command k loads told s).duty a is in
       let plan : (after_command k loads told s).station.plan ≡ s.plan = ap (λ (p : Present). p.plan) (command-stays k loads told s) in
-      let to : OwesTo k loads c start [] item s a.words o.acceptance = owes-to k loads c start [] item s a.words o.acceptance o.duty_is in
-      (
+      let to : OwesTo k loads c start [] item s a.words o.acceptance = owes-to k loads c start [] item s a.words o.acceptance o.duty_is in (
         timely told (after_command k loads told s).station.plan (after_command k loads told s).duty a o
             (subst (λ (p : StationData). 8 ≤ p.terminal.delay) (sym plan) prompt.least) (subst (λ (p : StationData). p.terminal.delay ≤ 24) (sym plan) prompt.most),
         record {

@@ -1,8 +1,8 @@
 -- What a message that was sent whole leaves of the row of bursts, by which of its answers are shown.
-use Rattle.std.proofs.Common.{◌≡◌, ◌⊎◌, inl, inr, ℕ, suc, ◌+◌, ◌-◌, ◌*◌, ◌<◌, ◌≤◌, List, [], ◌∷◌, ◌++◌, length, map, refl, ap, sym, subst, ◌∙◌, arith}
+use Rattle.std.proofs.Common.{◌≡◌, ℕ, ◌+◌, ◌≤◌, List, [], ◌∷◌, ◌++◌, refl, ap, sym, subst, ◌∙◌, arith}
 use Rattle.std.proofs.lemmas.Bool.{true≢false}
 use Rattle.std.proofs.lemmas.Option.{none-some, same_Some}
-use Rattle.std.specs.Prelude.{Bool, true, false, not, ◌&&◌, if◌then◌else◌, is_some, Option, Some, None}
+use Rattle.std.specs.Prelude.{Bool, true, false, if◌then◌else◌, is_some, Option, Some, None}
 use Rattle.bus_base.specs.Samples.{same_channel}
 use Rattle.bus_base.specs.declared.samples.Channel.{Channel}
 use Rattle.bus_base.specs.declared.samples.Part.{Part}
@@ -17,15 +17,16 @@ use Rattle.bus_formats.specs.declared.form.Reading.{Reading}
 use Rattle.bus_formats.specs.declared.form.Reading.TheVariants.{Good, Ends}
 use Rattle.bus_formats.specs.declared.form.Shape.{Shape}
 use Rattle.bus_formats.specs.declared.plan.Kind.{Kind}
-use Rattle.bus_model.specs.Endings.{Passing, Ending, second_read, second_ending, good_ending, read_ending, first_read, heard_ending, ending_by}
+use Rattle.bus_model.specs.Endings.{Passing, Ending, second_read, good_ending, read_ending, first_read, ending_by}
 use Rattle.bus_model.specs.Attempts.{is_offer}
 use Rattle.bus_model.specs.Starts.{needed_quiet}
 use Rattle.bus_model.specs.Strikes.{ShownAnswer, burst_end}
 use Rattle.bus_law_duties.specs.Words.{whole_slots}
-use Rattle.bus_monitor.specs.Messages.{Waiting, message_of, opens, waits_after, waits_on as second_waits}
+use Rattle.bus_monitor.specs.Messages.{Waiting, message_of, opens, waits_after}
 use Rattle.bus_rules.specs.Breaches.{answered}
-use Rattle.bus_law_judge.specs.Rows.{waits_on, IsApart, FollowsInOrder, AreInOrder}
+use Rattle.bus_law_judge.specs.Rows.{waits_on, IsApart, AreInOrder}
 use Rattle.bus_law_clean.specs.Bursts.{word_ticks, whole_burst}
+use Rattle.bus_law_clean.specs.Messages.{MessageKeeps}
 use Rattle.bus_law_clean.proofs.AnswerRead.{IsDue}
 use Rattle.bus_law_clean.proofs.MessageRow.{command-follows, command-waits, answer-follows, answer-waits}
 
@@ -34,15 +35,6 @@ takes b x y on = ap (λ (t : Bool). if t then x else y) on
 
 skips : {X : Type 0} (b : Bool) (x y : X) → b ≡ false → (if b then x else y) ≡ y
 skips b x y off = ap (λ (t : Bool). if t then x else y) off
-
--- the next message waits at least that long after the last burst of this one
-pub record MessageKeeps (k : ℕ) (row : List WholeBurst) (c : Channel) (wholes : List WholeBurst) (last : ℕ) (ending : Ending) : Type 0 where
-  pub in_order : AreInOrder k (wholes ++ row)
-  pub apart : (next : ℕ) → last + 4 ≤ next → IsApart k (wholes ++ row) next
-  pub waits : (w : Waiting) → waits_on k c (wholes ++ row) ≡ Some w → (w.from ≤ last) × (needed_quiet ending.ended.outcome ≡ 40)
-  pub others : (e : Channel) → same_channel c e ≡ false → waits_on k e (wholes ++ row) ≡ waits_on k e row
-  pub runs_on : ending.runs_on ≡ None
-  pub passes : (p : Passing) → ending.passes ≡ Some p → p.tick ≡ last + 40
 
 -- an answer of this message, from this tick on: after the end of the burst before, in time, and due
 pub record IsSentWell (kind : Kind) (part : Part) (end start : ℕ) (words : List Word) : Type 0 where
@@ -177,8 +169,11 @@ module _ (k : ℕ) (low : k ≤ 3) (row : List WholeBurst) (c : Channel) (start 
             subst (λ s. MessageKeeps k row c (first-burst ∷ command ∷ []) end-a (good_ending k kind status first None s)) (sym awaited) (record {
               in_order = order-two;
               apart = after-two;
-              waits = λ w is. (subst (λ (v : Waiting). v.from ≤ end-a)
-                  (same_Some (kept-second status) w (sym (good-waits status (Some second-shape) awaited reads) ∙ is)) (omega arith), refl);
+              waits = λ w is. (
+                subst (λ (v : Waiting). v.from ≤ end-a)
+                    (same_Some (kept-second status) w (sym (good-waits status (Some second-shape) awaited reads) ∙ is)) (omega arith),
+                refl,
+              );
               others = beside-two;
               runs_on = refl;
               passes = λ p is. absurd (none-some p is);

@@ -1,31 +1,24 @@
 -- The bursts of a message that was sent whole follow one another in order, and what then waits for an answer.
-use Rattle.std.proofs.Common.{◌≡◌, ◌⊎◌, inl, inr, ℕ, suc, ◌+◌, ◌-◌, ◌*◌, ◌%◌, ◌<◌, ◌≤◌, List, [], ◌∷◌, ◌++◌, length, map, refl, ap, sym, subst, ◌∙◌, arith}
-use Rattle.std.proofs.lemmas.Bool.{cases_Bool, true≢false}
+use Rattle.std.proofs.Common.{◌≡◌, ℕ, ◌+◌, ◌-◌, ◌*◌, ◌%◌, ◌≤◌, List, [], ◌∷◌, ◌++◌, length, refl, ap, sym, subst, ◌∙◌, arith}
 use Rattle.std.proofs.lemmas.Bool.Decides.{nat_tests}
-use Rattle.std.proofs.lemmas.Option.{none-some, same_Some}
+use Rattle.std.proofs.lemmas.Option.{none-some}
 use Rattle.std.specs.List.{list_any}
-use Rattle.std.specs.Prelude.{Bool, true, false, not, ◌&&◌, ◌||◌, nat_lt, nat_le, if◌then◌else◌, is_none, is_some, Option, Some, None, IfSome}
+use Rattle.std.specs.Prelude.{Bool, true, false, ◌||◌, nat_lt, if◌then◌else◌, is_none, Option, Some, None, IfSome}
 use Rattle.bus_base.specs.Samples.{same_channel}
 use Rattle.bus_base.specs.declared.samples.Channel.{Channel}
 use Rattle.bus_base.specs.declared.samples.Channel.TheVariants.{A, B}
-use Rattle.bus_base.specs.declared.samples.Part.{Part}
-use Rattle.bus_base.specs.declared.samples.Part.TheVariants.{First, Second}
 use Rattle.bus_words.specs.declared.word.Word.{Word}
-use Rattle.bus_line.specs.Past.{Burst, end_of, rest_of}
+use Rattle.bus_line.specs.Past.{Burst, end_of}
 use Rattle.bus_line.specs.Channels.{WholeBurst}
-use Rattle.bus_formats.specs.Forms.{answers_of}
 use Rattle.bus_formats.specs.Readings.{read_answer}
-use Rattle.bus_formats.specs.Times.{no_response}
-use Rattle.bus_formats.specs.declared.form.Reading.{Reading}
-use Rattle.bus_formats.specs.declared.form.Reading.TheVariants.{Good, Ends}
 use Rattle.bus_formats.specs.declared.plan.Kind.{Kind}
 use Rattle.bus_law_duties.specs.Words.{whole_slots}
-use Rattle.bus_monitor.specs.Messages.{Waiting, is_answer, opens, opening, waits, waits_after, waits_on as second_waits, answer_read, message_of}
+use Rattle.bus_monitor.specs.Messages.{Waiting, is_answer, opens, opening, waits, waits_after, answer_read, message_of}
 use Rattle.bus_rules.specs.Breaches.{breach_where, answered, is_damaged, longest_burst, longest_response, is_bad_reply, taken_so, ended_so}
 use Rattle.bus_rules.specs.declared.breach.Rule.TheVariants.{Word as WordRule, Long, Unknown, Reply}
 use Rattle.bus_law_clean.specs.Bursts.{word_ticks, whole_burst}
 use Rattle.bus_law_clean.proofs.AnswerRead.{IsDue}
-use Rattle.bus_law_judge.specs.Rows.{waits_on, IsApart, FollowsInOrder, AreInOrder}
+use Rattle.bus_law_judge.specs.Rows.{waits_on, IsApart, FollowsInOrder}
 
 none-damaged : (words : List Word) → list_any is_none (whole_slots words) ≡ false
 none-damaged [] = refl

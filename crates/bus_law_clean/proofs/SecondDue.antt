@@ -1,7 +1,6 @@
 -- The second answer of a message that no fault strikes: it comes only after a first that was good, and is due.
-use Rattle.std.proofs.Common.{◌≡◌, ◌≢◌, ◌⊎◌, inl, inr, ℕ, zero, suc, ◌%◌, ◌<◌, ◌≤◌, List, [], ◌∷◌, length, map, refl, ap, sym, subst, ◌∙◌, arith}
+use Rattle.std.proofs.Common.{◌≡◌, ◌⊎◌, inl, inr, ℕ, suc, ◌%◌, ◌<◌, ◌≤◌, List, [], ◌∷◌, length, map, refl, ap, sym, subst, ◌∙◌, arith}
 use Rattle.std.proofs.lemmas.Bool.{true≢false}
-use Rattle.std.proofs.lemmas.Bool.Decides.{nat_tests}
 use Rattle.std.proofs.lemmas.Option.{none-some}
 use Rattle.std.specs.Prelude.{Bool, true, false, ◌||◌, ◌==◌, if◌then◌else◌, Option, Some, None}
 use Rattle.bus_base.specs.declared.samples.Channel.{Channel}
@@ -9,22 +8,20 @@ use Rattle.bus_base.specs.declared.samples.Part.TheVariants.{First, Second}
 use Rattle.bus_words.specs.Fields.{address_of, command_bits, flags_in, is_broadcast, word_count}
 use Rattle.bus_words.specs.declared.word.Word.{Word}
 use Rattle.bus_formats.specs.Accepted.{HasKindRanges}
-use Rattle.bus_formats.specs.Forms.{command_word, data_word, command_words, answer_of, answers_of}
+use Rattle.bus_formats.specs.Forms.{data_word, command_words, answer_of, answers_of}
 use Rattle.bus_formats.specs.Plans.{TerminalData, ItemData}
-use Rattle.bus_formats.specs.Readings.{data_in, status_full, bad_reply, read_full, read_data, read_shape, read_answer}
-use Rattle.bus_formats.specs.declared.form.Reading.{Reading}
-use Rattle.bus_formats.specs.declared.form.Reading.TheVariants.{Good, Ends}
+use Rattle.bus_formats.specs.Readings.{data_in, status_full, bad_reply, read_full, read_shape, read_answer}
+use Rattle.bus_formats.specs.declared.form.Reading.TheVariants.{Good}
 use Rattle.bus_formats.specs.declared.form.Shape.{Shape}
 use Rattle.bus_formats.specs.declared.plan.Kind.{Kind}
 use Rattle.bus_formats.specs.declared.plan.Kind.TheVariants.{Receive, Transmit, Relay, Mode}
 use Rattle.bus_model.specs.Memory.{Memory, TimedLoad, status_of}
 use Rattle.bus_model.specs.Message.{Present, address_of_station, After, after_answer, after_answer_of, memory_at, command_burst}
-use Rattle.bus_model.specs.Orders.{Duty, free, owes, promises, relayed, kept, keep_promise}
+use Rattle.bus_model.specs.Orders.{owes, relayed, kept, keep_promise}
 use Rattle.bus_model.specs.Strikes.{struck, ShownBurst}
 use Rattle.bus_law_duties.specs.Duties.{PromisesToCommand}
 use Rattle.bus_law_duties.specs.Words.{whole_slots, with_data}
 use Rattle.bus_law_duties.proofs.Fields.{to-all}
-use Rattle.bus_law_duties.proofs.Kept.{OwesStatus}
 use Rattle.bus_law_duties.proofs.Obeys.{after}
 use Rattle.bus_law_duties.proofs.Owes.{free-owes}
 use Rattle.bus_law_duties.proofs.Promised.{who-promises}
@@ -147,8 +144,7 @@ module _ (k : ℕ) (loads : List TimedLoad) (c : Channel) (start : ℕ) (item : 
       let r = (keep_promise terminal memory answer.channel p.command p.transmitter answer.slots answer.rest).memory.registers in
       let promised : PromisesToCommand item.kind (address_of_station station) p.command p.transmitter (struck [] (command_words item.kind)) =
       who-promises k loads c start [] item station p.command p.transmitter ranges p.was in
-      let status : IsStatus own (status_of terminal r false) = is-status terminal r false (subst (λ n. n ≤ 31) (sym own-is) low) in
-      (
+      let status : IsStatus own (status_of terminal r false) = is-status terminal r false (subst (λ n. n ≤ 31) (sym own-is) low) in (
         status_of terminal r false,
         p.owed.words_are,
         by-kind item.kind (address_of_station station) p.command p.transmitter (struck [] (command_words item.kind)) number (status_of terminal r false) words ranges

@@ -1,21 +1,20 @@
 -- What a station answers to a command that was sent whole, and when.
-use Rattle.std.proofs.Common.{◌≡◌, ◌≢◌, ◌⊎◌, inl, inr, ℕ, zero, suc, ◌+◌, ◌/◌, ◌%◌, ◌<◌, ◌≤◌, List, [], ◌∷◌, ◌++◌, take, length, map, refl, ap, sym, subst, ◌∙◌, arith, append-nil}
+use Rattle.std.proofs.Common.{◌≡◌, ◌≢◌, ◌⊎◌, inl, inr, ℕ, zero, suc, ◌+◌, ◌/◌, ◌%◌, ◌≤◌, List, [], ◌∷◌, ◌++◌, take, length, refl, ap, sym, subst, ◌∙◌, arith, append-nil}
 use Rattle.std.proofs.lemmas.Bool.{true≢false}
 use Rattle.std.proofs.lemmas.Bool.Decides.{nat_tests}
-use Rattle.std.proofs.lemmas.Option.{none-some, same_Some}
+use Rattle.std.proofs.lemmas.Option.{none-some}
 use Rattle.std.specs.Option.{option_or}
-use Rattle.std.specs.List.{AllByRecursion as Each}
 use Rattle.std.specs.Prelude.{Bool, true, false, not, ◌&&◌, ◌==◌, if◌then◌else◌, Option, Some, None, option_to_list}
 use Rattle.bus_base.specs.declared.samples.Channel.{Channel}
 use Rattle.bus_base.specs.declared.samples.Part.TheVariants.{First}
-use Rattle.bus_words.specs.Fields.{address_of, command_bits, is_broadcast, is_clean, is_mode, is_transmit, field_of, sub_of, word_count}
+use Rattle.bus_words.specs.Fields.{command_bits, is_broadcast, is_clean, is_mode, is_transmit, field_of, word_count}
 use Rattle.bus_words.specs.declared.status.Flags.{Flags}
 use Rattle.bus_words.specs.declared.word.Word.{Word}
 use Rattle.bus_words.proofs.FlagBits.{status_bits_of}
 use Rattle.bus_formats.specs.Accepted.{HasKindRanges, HasReceiveRanges, HasTransmitRanges, HasModeRanges}
-use Rattle.bus_formats.specs.Forms.{command_word, data_word, command_words, answer_of, answers_of, mode_count}
+use Rattle.bus_formats.specs.Forms.{command_word, command_words, answer_of, mode_count}
 use Rattle.bus_formats.specs.Codes.{carried}
-use Rattle.bus_formats.specs.Plans.{TerminalData, StationData, ItemData}
+use Rattle.bus_formats.specs.Plans.{TerminalData, ItemData}
 use Rattle.bus_formats.specs.Readings.{read_shape, read_answer}
 use Rattle.bus_formats.specs.declared.form.Shape.{Shape}
 use Rattle.bus_formats.specs.declared.log.Registers.{Registers}
@@ -23,16 +22,16 @@ use Rattle.bus_formats.specs.declared.plan.Kind.{Kind}
 use Rattle.bus_formats.specs.declared.plan.Kind.TheVariants.{Receive, Transmit, Relay, Mode}
 use Rattle.bus_model.specs.Commands.{tail_of, relay_from}
 use Rattle.bus_model.specs.Memory.{Memory, TimedLoad, status_of}
-use Rattle.bus_model.specs.Message.{Present, address_of_station, After, after_command, memory_at, command_burst, answer_for, answer_to}
-use Rattle.bus_model.specs.Orders.{Duty, free, owes, promises, Obeyed, Order, order_with, last_order, is_for, due_after, obey_tail}
+use Rattle.bus_model.specs.Message.{Present, address_of_station, After, memory_at, command_burst}
+use Rattle.bus_model.specs.Orders.{owes, promises, Order, order_with, last_order, is_for, obey_tail}
 use Rattle.bus_model.specs.Starts.{has_items}
-use Rattle.bus_model.specs.Strikes.{spoiled, own_struck, struck, ShownBurst, burst_end, Answer}
+use Rattle.bus_model.specs.Strikes.{spoiled, own_struck, struck}
 use Rattle.bus_law_duties.specs.Words.{whole_slots, with_data, AreLeftOf}
 use Rattle.bus_law_duties.proofs.Fields.{skips, own-one, own-terminal, for-own, address-is, sub-is, field-is, transmit-is, plain-mode}
 use Rattle.bus_law_duties.proofs.Found.{same-tail, AtFirst, AtSecond, one-found, relay-found}
-use Rattle.bus_law_duties.proofs.Obeys.{after, obeyed, Obeys}
+use Rattle.bus_law_duties.proofs.Obeys.{after, obeyed}
 use Rattle.bus_law_duties.proofs.Owes.{OwesTo, owes-to}
-use Rattle.bus_law_duties.proofs.Relayed.{first, second, first-not-mode, second-not-mode, second-transmits, from-is, to-is, not-31, is-relayed}
+use Rattle.bus_law_duties.proofs.Relayed.{first, second, second-not-mode, second-transmits, from-is, not-31, is-relayed}
 use Rattle.bus_law_duties.proofs.Status.{status-address}
 use Rattle.bus_law_duties.proofs.Struck.{struck-left}
 use Rattle.bus_law_plans.proofs.Orders.{count-is, mode-is}

@@ -1,7 +1,3 @@
-use Rattle.bus_law_clean.proofs.MessageJudged.{this}
-use Rattle.bus_law_clean.proofs.AnswersRight.{second-right}
-use Rattle.bus_law_clean.proofs.MessageKeeps.{no-second}
-use Rattle.bus_law_clean.proofs.SecondDue.{second-due}
 use Rattle.bus_law_clean.proofs.MessageRow.{answer-follows, answer-waits}
 use Rattle.bus_law_clean.proofs.rows.an_answer_follows_in_order.Goals as goal
 
