@@ -1,0 +1,4 @@
+pub mod Headers
+pub mod Inputs
+pub mod Logs
+pub mod Lines
