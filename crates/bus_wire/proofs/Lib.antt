@@ -3,6 +3,7 @@ pub mod NewestLaws
 pub mod LastLaws
 pub mod FoundLaws
 pub mod TransmitterLaws
+mod Unstruck
 pub mod ShownLaws
 pub mod SideLaws
 pub mod ExtraLaws

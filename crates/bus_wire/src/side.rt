@@ -32,6 +32,7 @@ pub struct OnChannel {
 
 impl OnChannel {
     // One station more, which is later in their order.
+    #[inline(always)]
     fn with(self, shown: Option<Sample>) -> OnChannel
         requires { self.drivers < 255 }
         ensures { result ≡ with_shown self shown }
@@ -91,6 +92,7 @@ impl Side {
 
     /// What this channel shows in this tick, the newest, of what the stations drive: the first station in their order that counts as driving
     /// it. `other` is the newest tick in which any station drove the other channel.
+    #[inline(never)]
     pub fn shown(
         &self,
         channel: Channel,
@@ -124,6 +126,7 @@ impl Side {
     }
 
     /// What `shown` answers, where only the stations at these places may drive.
+    #[inline(always)]
     pub fn shown_among(
         &self,
         channel: Channel,
@@ -141,6 +144,12 @@ impl Side {
         ensures { (before : List (List Drive)) → SideStands faults.now channel self.now (drives.now ∷ before) → tick ≡ length before →
             other ≡ newest (by_any (other_of channel)) (drives.now ∷ before) → Shows (samples_on faults.now channel (drives.now ∷ before)) result }
     {
+        if self.is_idle(tick) {
+            return OnChannel {
+                sample: Sample::Quiet,
+                drivers: 0,
+            };
+        }
         if self.may_add(tick) {
             return self.shown(channel, faults, tick, other, drives);
         }
@@ -148,6 +157,7 @@ impl Side {
     }
 
     // What the stations at these places drive, where they alone may drive and no extra may add to the channel.
+    #[inline(always)]
     fn driven_among(
         &self,
         channel: Channel,
@@ -179,6 +189,7 @@ impl Side {
     }
 
     // Whether nobody drives the channel in this tick, the newest, and no extra may add to it.
+    #[inline(always)]
     fn is_idle(&self, tick: u64) -> bool
         ensures { result ≡ (not (since self.now.driven tick) && not (may_add tick self.now.extra)) }
     {
@@ -186,6 +197,7 @@ impl Side {
     }
 
     // Whether an extra may add to a transmission of the channel in this tick: the fail-safe hasn't stopped all of them.
+    #[inline(always)]
     fn may_add(&self, tick: u64) -> bool
         ensures { result ≡ may_add tick self.now.extra }
     {

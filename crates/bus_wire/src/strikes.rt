@@ -2,7 +2,7 @@
 //!
 //! The faults aren't copied: a transmission keeps the range of the list in which all of its own lie, so that one which no fault names goes
 //! over nothing in its ticks.
-ghost use Rattle.std.specs.Prelude.{◌≡◌, ◌+◌, ◌≤◌, ◌&&◌, ◌==◌, List, take, drop, length, if◌then◌else◌};
+ghost use Rattle.std.specs.Prelude.{◌≡◌, ◌+◌, ◌≤◌, ◌&&◌, ◌==◌, nat_le, List, take, drop, length, if◌then◌else◌};
 ghost use Rattle.std.specs.List.{list_any};
 ghost use Rattle.bus_base.specs.Samples as samples;
 ghost use Rattle.bus_model.specs.Strikes.{hits_on, strikes_at};
@@ -43,6 +43,7 @@ impl Strikes {
     }
 
     /// The strikes of a part of an attempt.
+    #[inline(never)]
     pub fn of(faults: &[Fault], attempt: u128, part: Part) -> Strikes
         ensures attempt { result.attempt ≡ attempt }
         ensures part { result.part ≡ part }
@@ -60,7 +61,28 @@ impl Strikes {
     }
 
     /// The sample at a place of the transmission as the wire shows it.
+    #[inline(always)]
     pub fn shown(&self, faults: &[Fault], place: u64, sample: Sample) -> Sample
+        requires { AreStrikes faults.now self.now }
+        ensures { result ≡ struck_sample place (hits_on faults.now self.now.attempt self.now.part) sample }
+    {
+        if self.is_empty() {
+            return sample;
+        }
+        self.struck(faults, place, sample)
+    }
+
+    // Whether no fault is in its range.
+    #[inline(always)]
+    fn is_empty(&self) -> bool
+        ensures { result ≡ nat_le self.now.until self.now.from }
+    {
+        self.until <= self.from
+    }
+
+    // It is a call of its own, since few transmissions are struck.
+    #[inline(never)]
+    fn struck(&self, faults: &[Fault], place: u64, sample: Sample) -> Sample
         requires { AreStrikes faults.now self.now }
         ensures { result ≡ struck_sample place (hits_on faults.now self.now.attempt self.now.part) sample }
     {
@@ -74,7 +96,19 @@ impl Strikes {
     }
 
     /// Whether a cut ended the transmission before this place.
+    #[inline(always)]
     pub fn is_cut_over(&self, faults: &[Fault], place: u64) -> bool
+        requires { AreStrikes faults.now self.now }
+        ensures { result ≡ list_any (spec.cut_over place) (hits_on faults.now self.now.attempt self.now.part) }
+    {
+        if self.is_empty() {
+            return false;
+        }
+        self.has_cut_before(faults, place)
+    }
+
+    #[inline(never)]
+    fn has_cut_before(&self, faults: &[Fault], place: u64) -> bool
         requires { AreStrikes faults.now self.now }
         ensures { result ≡ list_any (spec.cut_over place) (hits_on faults.now self.now.attempt self.now.part) }
     {

@@ -4,7 +4,7 @@ ghost use Rattle.bus_model.specs.Wire as spec;
 ghost use Rattle.bus_model.specs.Strikes.{hits_on};
 ghost use Rattle.bus_wire.specs.Newest.{since};
 ghost use Rattle.bus_wire.specs.Steps.{goes_on, driven_by, added_of, is_added, ends_by, sends_command, shown_or, driven_sample, extra_with};
-ghost use Rattle.bus_wire.specs.Stands.{AreStrikes, Unsent, Follows};
+ghost use Rattle.bus_wire.specs.Stands.{AreStrikes, Unsent, Begins, Follows};
 
 use crate::strikes::Strikes;
 use bus_base::{Channel, Drive, Part, Sample};
@@ -48,6 +48,7 @@ impl Transmitter {
     }
 
     /// The station drives the channel. So many transmissions of commands have begun before; it answers how many have then.
+    #[inline(always)]
     pub fn follow(&mut self, faults: &[Fault], commands: u128, driven: Driven) -> u128
         requires few { commands < 2 ^ 100 }
         requires strikes { IsSome self.old.drove → AreStrikes faults.now self.old.strikes }
@@ -57,6 +58,15 @@ impl Transmitter {
             self.drive(driven);
             return commands;
         }
+        self.begin(faults, commands, driven)
+    }
+
+    // A transmission begins. It is a call of its own, since in most ticks one goes on.
+    #[inline(never)]
+    fn begin(&mut self, faults: &[Fault], commands: u128, driven: Driven) -> u128
+        requires few { commands < 2 ^ 100 }
+        ensures { Begins faults.now commands driven self.new result }
+    {
         let attempt = if is_command(driven.part) {
             commands + 1
         } else {
@@ -98,6 +108,7 @@ impl Transmitter {
     }
 
     /// A sample that the station drives in this tick, as the wire shows it.
+    #[inline(always)]
     pub fn struck(&self, faults: &[Fault], tick: u64, sample: Sample) -> Sample
         requires { AreStrikes faults.now self.now.strikes }
         ensures { result ≡ spec.struck_sample (tick - self.now.first) (hits_on faults.now self.now.strikes.attempt self.now.strikes.part) sample }
@@ -108,6 +119,7 @@ impl Transmitter {
 
     /// What an extra adds in a tick in which the station doesn't drive the channel. `other` is the newest tick in which any station drove the
     /// other channel.
+    #[inline(never)]
     pub fn added(&self, tick: u64, other: Option<u64>) -> Option<Sample>
         ensures { result ≡ added_of tick other self.now }
     {
@@ -122,6 +134,7 @@ impl Transmitter {
 
     /// What is shown of the station in this tick, if it counts as driving the channel: the sample that it drives there, struck, else what an
     /// extra adds. `adds` says whether an extra may add to any transmission of the channel.
+    #[inline(always)]
     pub fn shown(
         &self,
         faults: &[Fault],
@@ -174,6 +187,7 @@ impl Transmitter {
 }
 
 /// The sample that a station drives on a channel, if it does.
+#[inline(always)]
 pub fn sample_on(channel: Channel, drive: Drive) -> Option<Sample>
     ensures { result ≡ driven_sample channel drive }
 {
