@@ -3,6 +3,7 @@ pub mod ChannelLaws
 pub mod MessageLaws
 pub mod LineLaws
 pub mod WordLaws
+pub mod DigitLaws
 pub mod QuietLaws
 pub mod IdleLaws
 pub mod WriterLaws

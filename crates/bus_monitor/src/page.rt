@@ -2,8 +2,9 @@
 //!
 //! Contracts see a page as the list of its bytes, as they see a line.
 ghost use Rattle.std.specs.Prelude.{◌≡◌, ◌+◌, ◌/◌, ◌%◌, ◌≤◌, ◌<◌, [], ◌∷◌, ◌++◌, List, ℕ, length, decimal};
-ghost use Rattle.bus_text.specs.Texts.{hex_digit, hex_word, line, number as number_text, word as word_text, channel_text, sync_text, word_line};
+ghost use Rattle.bus_text.specs.Texts.{hex_word, line, number as number_text, word as word_text, channel_text, sync_text, word_line};
 
+use crate::digits::{hex_digit, ones, tens};
 use arrayvec::ArrayVec;
 use bus_base::Channel;
 use bus_formats::Heard;
@@ -59,6 +60,7 @@ impl Page {
     }
 
     /// Adds the line of a word heard.
+    #[inline(always)]
     pub fn word(&mut self, heard: Heard)
         requires { length self.old + 40 ≤ 8192 }
         ensures text { self.new ≡ self.old ++ word_line heard }
@@ -125,6 +127,53 @@ impl Page {
         ensures text { self.new ≡ self.old ++ decimal n }
         ensures grows { length self.new ≤ length self.old + 20 }
     {
+        if n < 10_000 {
+            self.few_digits(n as u16);
+        } else if n < 100_000_000 {
+            self.few_digits((n / 10_000) as u16);
+            self.four_digits((n % 10_000) as u16);
+        } else {
+            self.many_digits(n);
+        }
+    }
+
+    // Adds a number below 10,000 in decimal digits.
+    #[inline(always)]
+    fn few_digits(&mut self, n: u16)
+        requires few { n < 10000 }
+        requires room { length self.old + 4 ≤ 8192 }
+        ensures text { self.new ≡ self.old ++ decimal n }
+        ensures grows { length self.new ≤ length self.old + 4 }
+    {
+        if n < 10 {
+            self.add(&[ones(n)]);
+        } else if n < 100 {
+            self.add(&[tens(n), ones(n)]);
+        } else if n < 1000 {
+            self.add(&[ones(n / 100), tens(n % 100), ones(n % 100)]);
+        } else {
+            self.four_digits(n);
+        }
+    }
+
+    // Adds a number below 10,000 in four decimal digits.
+    #[inline(always)]
+    fn four_digits(&mut self, n: u16)
+        requires few { n < 10000 }
+        requires room { length self.old + 4 ≤ 8192 }
+        ensures text { self.new ≡ self.old ++ (48 + n / 1000) ∷ (48 + n / 100 % 10) ∷ (48 + n / 10 % 10) ∷ (48 + n % 10) ∷ [] }
+        ensures grows { length self.new ≡ length self.old + 4 }
+    {
+        self.add(&[tens(n / 100), ones(n / 100), tens(n % 100), ones(n % 100)]);
+    }
+
+    // Adds a number in decimal digits, however many.
+    #[inline(never)]
+    fn many_digits(&mut self, n: u64)
+        requires { length self.old + 20 ≤ 8192 }
+        ensures text { self.new ≡ self.old ++ decimal n }
+        ensures grows { length self.new ≤ length self.old + 20 }
+    {
         self.add(Buffer::new().format(n).as_bytes());
     }
 
@@ -135,10 +184,10 @@ impl Page {
         ensures grows { length self.new ≡ length self.old + 4 }
     {
         self.add(&[
-            digit_of(word / 4096 % 16),
-            digit_of(word / 256 % 16),
-            digit_of(word / 16 % 16),
-            digit_of(word % 16),
+            hex_digit(word / 4096 % 16),
+            hex_digit(word / 256 % 16),
+            hex_digit(word / 16 % 16),
+            hex_digit(word % 16),
         ]);
     }
 
@@ -154,10 +203,10 @@ impl Page {
             b' ',
             sync,
             b' ',
-            digit_of(word / 4096 % 16),
-            digit_of(word / 256 % 16),
-            digit_of(word / 16 % 16),
-            digit_of(word % 16),
+            hex_digit(word / 4096 % 16),
+            hex_digit(word / 256 % 16),
+            hex_digit(word / 16 % 16),
+            hex_digit(word % 16),
             b'\n',
         ]);
     }
@@ -180,17 +229,5 @@ fn sync_letter(sync: Sync) -> u8
     match sync {
         Sync::Command => b'c',
         Sync::Datum => b'd',
-    }
-}
-
-// The upper-case hexadecimal digit of a number below 16.
-fn digit_of(n: u16) -> u8
-    requires { n < 16 }
-    ensures { result ≡ hex_digit n }
-{
-    if n < 10 {
-        b'0' + n as u8
-    } else {
-        b'A' + (n as u8 - 10)
     }
 }

@@ -110,7 +110,7 @@ impl WordLister {
 }
 
 /// The valid word that ends in this tick, which is the last of its forty.
-pub(crate) fn word_in(cut: Cut, channel: Channel, tick: u64) -> Option<Heard>
+pub fn word_in(cut: Cut, channel: Channel, tick: u64) -> Option<Heard>
     ensures { result ≡ heard_in cut channel tick }
 {
     match cut {

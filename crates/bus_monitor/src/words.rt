@@ -78,6 +78,7 @@ fn add_cut(cut: Cut, channel: Channel, tick: u64, text: &mut Page)
     }
 }
 
+#[inline(always)]
 fn add_word(heard: Option<Heard>, text: &mut Page)
     requires { length text.old ≤ 3900 }
     ensures text { text.new ≡ text.old ++ flat_map word_line (option_to_list heard) }
@@ -88,6 +89,7 @@ fn add_word(heard: Option<Heard>, text: &mut Page)
     }
 }
 
+#[inline(always)]
 fn add_line(heard: Heard, text: &mut Page)
     requires { length text.old ≤ 3900 }
     ensures text { text.new ≡ text.old ++ word_line heard }

@@ -1,10 +1,8 @@
-use Rattle.std.proofs.Common.{◌≤◌, length, arith}
-use Rattle.std.specs.Prelude.{decimal}
-use Rattle.std.proofs.lemmas.Fmt.{length-decimal-le}
+use Rattle.std.proofs.Common.{◌/◌, ◌%◌, arith, refl}
+use Rattle.bus_monitor.proofs.DigitLaws.{appends-both, rest-and-four}
 use Rattle.bus_monitor.proofs.page.Page.decimal.Goals as goal
 
-pub add-requires : goal.add-requires
-add-requires c = let few : length (decimal c.args.n) ≤ 20 = length-decimal-le 20 c.args.n (omega arith) (omega arith) (omega arith) in omega (arith, few)
-
-pub returns-clause-grows : goal.returns-clause-grows
-returns-clause-grows c = let few : length (decimal c.args.n) ≤ 20 = length-decimal-le 20 c.args.n (omega arith) (omega arith) (omega arith) in omega (arith, few, c.add.ensures.grows)
+pub returns-then-n-lt100000000-clause-text : goal.returns-then-n-lt100000000-clause-text
+returns-then-n-lt100000000-clause-text c =
+    appends-both _ _ _ _ _ _ c.few_digits-then-n-lt100000000.ensures.text c.four_digits.ensures.text
+    (rest-and-four c.args.n (c.args.n / 10000) (c.args.n % 10000) (omega arith) (omega arith) refl refl)
