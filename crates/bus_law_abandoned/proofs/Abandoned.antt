@@ -16,11 +16,10 @@ use Rattle.bus_model.specs.Message.{Present, After, after_command, answer_to}
 use Rattle.bus_model.specs.Starts.{Entry}
 use Rattle.bus_model.specs.Strikes.{hits_on, struck, ShownBurst, burst_end, ShownAnswer, is_faded}
 use Rattle.bus_law_line.specs.Senders.{attempt_to_come}
-use Rattle.bus_law_messages.proofs.Sending.{shown-long}
 use Rattle.bus_law_parts.specs.Parts.{part_ticks}
 use Rattle.bus_law_phases.specs.Answers.{AnswerBegins, BeginsAt, MayAbandon}
 use Rattle.bus_law_phases.specs.Commands.{begun_at, command_at}
-use Rattle.bus_law_phases.specs.Scenarios.{Scenario, shown_at, driven_at, commands_in, course_of, NoneTakesFrom}
+use Rattle.bus_law_phases.specs.Scenarios.{Scenario, shown_at, driven_at, commands_in, course_of, StaysFrom}
 use Rattle.bus_law_phases.proofs.AnswerBegun.{shown-by}
 use Rattle.bus_law_phases.proofs.AnswerPasses.{begins-at}
 use Rattle.bus_law_moments.specs.Begun.{MessageBegan}
@@ -34,6 +33,7 @@ use Rattle.bus_law_abandoned.proofs.Running.{RunsFor, ran}
 use Rattle.bus_law_abandoned.proofs.Speaker.{HasSpeaker, speaker}
 use Rattle.bus_law_abandoned.proofs.Table.{IsAnsweredAlone, NonePromises, answered-alone, none-promise}
 use Rattle.bus_law_abandoned.proofs.Ticks.{IsAbandonedIn, abandoned-when, within-range}
+use Rattle.bus_law_phases.proofs.Staying.{long-at, stays-later}
 
 module _ (w : Scenario) (t place : ℕ) (holder : StationData) (stations : List Present) (entry : Entry) (ended : List Attempt) (found : List ShownBurst)
     (b : MessageBegan w t holder entry place stations ended found) (alone : IsAnsweredAlone entry.item.kind) (first : ShownAnswer)
@@ -65,8 +65,11 @@ module _ (w : Scenario) (t place : ℕ) (holder : StationData) (stations : List 
   abbrev i : ℕ
   i = e + when.n - 1 - u
 
+  none-now : StaysFrom w u
+  none-now = stays-later w t u (passage-due w t place holder stations entry ended found b alone first shows).later b.none
+
   long : length (shown_at w u) ≡ u
-  long = shown-long w.lag w.plan w.loads w.outside w.absent u
+  long = long-at w u none-now
 
   begins : AnswerBegins w u place holder First cmd obeyed first
   begins = begins-due w t place holder stations entry ended found b alone first shows
@@ -127,10 +130,6 @@ module _ (w : Scenario) (t place : ℕ) (holder : StationData) (stations : List 
       none-promise w.lag w.loads c t (hits_on w.plan.faults (attempt_to_come w.plan.faults Command (driven_at w t)) Command) entry.item stations
       b.entry_of.ranges.kind alone
 
-  none-now : NoneTakesFrom w u
-  none-now other station at n after =
-      let up = (passage-due w t place holder stations entry ended found b alone first shows).later in b.none other station at n (omega (arith, up, after))
-
   spoken : HasSpeaker w (shown_at w u) place cmd.channel first.sent.words first.sent.address
   spoken = speaker w u place holder cmd obeyed first b.accepted begins none none-now
 
@@ -146,7 +145,7 @@ module _ (w : Scenario) (t place : ℕ) (holder : StationData) (stations : List 
     runs-for =
         let lag = b.lag in record {
           lag = b.lag;
-          long = long;
+          stays = none-now;
           at = begins.moment.at;
           holds = begins.moment.holds;
           same = waiting-same w past holder begun e when.n i First first awaits begins-here

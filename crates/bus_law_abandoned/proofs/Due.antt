@@ -15,7 +15,6 @@ use Rattle.bus_model.specs.Strikes.{hits_on, ShownBurst, burst_end, ShownAnswer,
 use Rattle.bus_law_control.proofs.OwnChannel.{first-own}
 use Rattle.bus_law_duties.proofs.Settled.{one-owes-answer}
 use Rattle.bus_law_line.specs.Senders.{attempt_to_come}
-use Rattle.bus_law_messages.proofs.Sending.{shown-long}
 use Rattle.bus_law_stations.specs.Messages.{with_running}
 use Rattle.bus_law_stations.specs.Silence.{AwaitsFirst, NothingStarts}
 use Rattle.bus_law_table.proofs.Quiet.{pairs-quiet, pairs-many}
@@ -23,7 +22,7 @@ use Rattle.bus_law_phases.specs.Answers.{AnswerBegins}
 use Rattle.bus_law_phases.specs.Commands.{begun_at, command_at, command_known, ended_with_command}
 use Rattle.bus_law_phases.specs.Moments.{Underway, LastsTo}
 use Rattle.bus_law_phases.specs.Passages.{Passage, followed_by, nothing_happens}
-use Rattle.bus_law_phases.specs.Scenarios.{Scenario, trace_at, shown_at, driven_at, commands_in, course_of, NoneTakesFrom}
+use Rattle.bus_law_phases.specs.Scenarios.{Scenario, trace_at, shown_at, driven_at, commands_in, course_of, StaysFrom}
 use Rattle.bus_law_phases.specs.Silences.{GoesOnTo, SomeoneIsBusy}
 use Rattle.bus_law_phases.proofs.AnswerBegun.{shown-by}
 use Rattle.bus_law_phases.proofs.Lasting.{lasting}
@@ -35,6 +34,7 @@ use Rattle.bus_law_told.proofs.TablesDue.{loads-fit}
 use Rattle.bus_law_told.proofs.TablesShown.{first-shown-to}
 use Rattle.bus_law_moments.specs.Begun.{MessageBegan}
 use Rattle.bus_law_abandoned.proofs.Table.{IsAnsweredAlone}
+use Rattle.bus_law_phases.proofs.Staying.{long-later, stays-later}
 
 -- a station with a message that runs is busy
 busy-with : (w : Scenario) (u place : ℕ) (holder : StationData) (begun : Begun) (c : Course) (burst : ShownBurst) (afters : List After) →
@@ -109,7 +109,7 @@ module _ (w : Scenario) (t place : ℕ) (holder : StationData) (stations : List 
   idle : NothingStarts w.lag (course_of w holder (shown_at w known)) (shown_at w known) (due - known)
   idle =
       let runs : (course_of w holder (shown_at w known)).runs ≡ Some begun = ap (λ (d : Course). d.runs) since-runs in
-      let many : length (shown_at w known) ≡ known = shown-long w.lag w.plan w.loads w.outside w.absent known in record {
+      let many : length (shown_at w known) ≡ known = long-later w t known b.known.passage.later b.none in record {
         waits = λ other is. (
           e,
           inl (subst (λ (x : Begun). AwaitsFirst w.lag x (on_channel x.state.channel (shown_at w known)) e) (same_Some begun other (sym runs ∙ is))
@@ -127,8 +127,8 @@ module _ (w : Scenario) (t place : ℕ) (holder : StationData) (stations : List 
       subst (λ v. All (LastsTo v e) obeyed) (sym due-at)
       (all-last-to cmd obeyed first.sent b.known.moment.one answers-it (omega (arith, in-time)))
 
-  none-since : NoneTakesFrom w known
-  none-since other station at tick after = let up = b.known.passage.later in b.none other station at tick (omega (arith, up, after))
+  none-since : StaysFrom w known
+  none-since = stays-later w t known b.known.passage.later b.none
 
   goes-since : GoesOnTo w (shown_at w known) (known + (due - known))
   goes-since = inl (busy-with w known place holder begun start_course cmd obeyed b.known.moment since-runs)

@@ -40,6 +40,7 @@ use Rattle.bus_law_phases.proofs.Resting.{each-present, no-attempt}
 use Rattle.bus_law_phases.proofs.Spares.{one-gives}
 use Rattle.bus_law_abandoned.proofs.Others.{others-same, others-take, others-serve}
 use Rattle.bus_law_abandoned.proofs.Running.{RunsFor, RanFor}
+use Rattle.bus_law_phases.proofs.Staying.{long-at}
 
 -- ---- one tick more, in which no burst ends and no block is taken
 
@@ -110,7 +111,7 @@ module _ (w : Scenario) (t place : ℕ) (holder : StationData) (c : Channel) (pa
   number : length (ticks ++ past) ≡ t + i
   number =
       let count : length (ticks ++ past) ≡ length ticks + length past = length-append ticks past in
-      let many = ran.many in let long = so.long in omega (arith, count, many, long)
+      let many = ran.many in let long = long-at w t so.stays in omega (arith, count, many, long)
 
   pub course-closed : course_of w holder ((ran.newest ∷ ran.ticks) ++ shown_at w t) ≡ close (course_of w holder (shown_at w t)) begun (without_words Abandoned None None) (t + i)
   course-closed = so.closes x ticks ran.all ran.many

@@ -20,7 +20,6 @@ use Rattle.bus_model.specs.Strikes.{hits_on, ShownBurst, burst_end, ShownAnswer,
 use Rattle.bus_model.specs.World.{Trace}
 use Rattle.bus_law_line.specs.Senders.{Sender, attempt_to_come}
 use Rattle.bus_law_messages.specs.Settled.{NoneStarts}
-use Rattle.bus_law_messages.proofs.Sending.{shown-long}
 use Rattle.bus_law_stations.specs.Turns.{Serves}
 use Rattle.bus_law_table.specs.Stations.{ArePresent}
 use Rattle.bus_law_phases.specs.Answers.{AnswerBegins}
@@ -42,6 +41,7 @@ use Rattle.bus_law_abandoned.proofs.Others.{others-same, others-keep}
 use Rattle.bus_law_abandoned.proofs.Running.{RunsFor, RanFor}
 use Rattle.bus_law_abandoned.proofs.Stations.{stations-are}
 use Rattle.bus_law_abandoned.proofs.Table.{IsAnsweredAlone, NonePromises, none-promise, AbandonedIs, abandoned-is}
+use Rattle.bus_law_phases.proofs.Staying.{long-later}
 
 -- what happened with a command, in silence, and in the tick in which its answer was abandoned
 all-happened : (blocks : List Delivered) (found : List ShownBurst) (ended : List Attempt) (attempt : Attempt) →
@@ -237,7 +237,7 @@ module _ (w : Scenario) (t place : ℕ) (holder : StationData) (stations : List 
     starts-over : NoneStarts (course_of w holder (shown_at w over)) (shown_at w over) 0
     starts-over later entries left =
         let d = course_of w holder (shown_at w over) in
-        let many : length (shown_at w over) ≡ over = shown-long w.lag w.plan w.loads w.outside w.absent over in
+        let many : length (shown_at w over) ≡ over = long-later w u over (omega arith) so.stays in
         subst (λ o. length (shown_at w over) + 0 ≤ start_of o d.retry d.origin later (quiet_from (shown_at w over))) (sym opens-over) (omega (arith, many))
 
     beside : BesideOldAnswer w over place holder (stations_after w t holder stations entry) first
@@ -249,6 +249,7 @@ module _ (w : Scenario) (t place : ℕ) (holder : StationData) (stations : List 
           afters = obeyed;
           begins = begins;
           unpromised = none;
+          stays = so.stays;
           teller = answerer;
           telling = answering;
           teller_at = so.speaks.at;

@@ -21,7 +21,7 @@ use Rattle.bus_model.specs.Strikes.{hits_on}
 use Rattle.bus_model.specs.Terminal.{took_now}
 use Rattle.bus_model.specs.Transmissions.{drive_or, station_drive}
 use Rattle.bus_model.specs.Wire.{shown}
-use Rattle.bus_model.specs.World.{Trace, drives_after, drivers_in, run_is_over}
+use Rattle.bus_model.specs.World.{Trace, drives_after}
 use Rattle.bus_law_control.proofs.Holding.{heard-nothing}
 use Rattle.bus_law_line.specs.Senders.{Sender, IsSpent, attempt_to_come}
 use Rattle.bus_law_line.specs.Shown.{first_samples}
@@ -32,20 +32,21 @@ use Rattle.bus_law_parts.proofs.PartBursts.{leg-part}
 use Rattle.bus_law_table.proofs.Takes.{unheard-takes}
 use Rattle.bus_law_phases.specs.PartRuns.{IsFirstOf, PartRuns}
 use Rattle.bus_law_phases.specs.Passages.{HoldsAlone, Passage}
-use Rattle.bus_law_phases.specs.Scenarios.{Scenario, trace_at, shown_at, driven_at, commands_in, course_of, hearing_of, IsPresentAt}
+use Rattle.bus_law_phases.specs.Scenarios.{Scenario, trace_at, shown_at, driven_at, commands_in, course_of, hearing_of, IsPresentAt, drivers_at, is_over_at, StaysFrom}
 use Rattle.bus_law_phases.specs.Silences.{GoesOnTo}
 use Rattle.bus_law_phases.proofs.AnswerQuiet.{answer-goes-on}
 use Rattle.bus_law_phases.proofs.Commanding.{by-place}
 use Rattle.bus_law_phases.proofs.Legs.{sent-ticks, first-for, trace-is, drives-one, goes-on, leg-passes}
 use Rattle.bus_law_phases.proofs.PartRunning.{one-more}
 use Rattle.bus_law_abandoned.proofs.Others.{Speaks, free-silent, answerer-drives, others-same, others-take, others-serve}
+use Rattle.bus_law_phases.proofs.Staying.{long-at}
 
 -- from tick t on an answer begins, as these hits strike it; the station in control only waits for i ticks more, and with the tick after them it has
 -- this course
 pub record RunsFor (w : Scenario) (t place : ℕ) (holder : StationData) (c : Channel) (part : Part) (words : List Word) (hits : List Hit) (answerer : ℕ)
     (answering : StationData) (i : ℕ) (later : Course) : Type 0 where
   pub lag : w.lag ≡ 3
-  pub long : length (shown_at w t) ≡ t
+  pub stays : StaysFrom w t
   -- the station in control
   pub at : IsPresentAt w place holder
   pub holds : (course_of w holder (shown_at w t)).holds ≡ true
@@ -85,8 +86,8 @@ pub record RanFor (w : Scenario) (t : ℕ) (s : Sender) (hits : List Hit) (i : �
   -- nothing came to pass before the newest, which is in order
   pub passed : Passage w t (t + i) record { blocks = []; bursts = []; attempts = []; commands = 0 }
   pub counted : commands_in w (driven_at w (t + suc i)) ≡ commands_in w (driven_at w t) + 0
-  pub drives : (d : Channel) → drivers_in w.lag w.plan w.loads w.outside w.absent (t + i) d ≤ 1
-  pub goes_on : run_is_over w.lag w.plan w.loads w.outside w.absent (t + i) ≡ false
+  pub drives : (d : Channel) → drivers_at w (t + i) d ≤ 1
+  pub goes_on : is_over_at w (t + i) ≡ false
 
 module _ (w : Scenario) (t place : ℕ) (holder : StationData) (c : Channel) (part : Part) (words : List Word) (hits : List Hit) (answerer : ℕ)
     (answering : StationData) (i : ℕ) (later : Course) (so : RunsFor w t place holder c part words hits answerer answering i later) where
@@ -143,8 +144,8 @@ module _ (w : Scenario) (t place : ℕ) (holder : StationData) (c : Channel) (pa
   }
 
   goes-for : (ticks : List Pair) → IsFirstOf w.lag c hits words ticks → length ticks < suc i → (j : ℕ) → shown_at w j ≡ ticks ++ past →
-      run_is_over w.lag w.plan w.loads w.outside w.absent j ≡ false
-  goes-for ticks first few = answer-goes-on w t c past ticks so.lag so.long so.goes first.alone
+      is_over_at w j ≡ false
+  goes-for ticks first few = answer-goes-on w t c past ticks so.lag (long-at w t so.stays) so.goes first.alone
 
   -- no command began
   counted-by : (n : ℕ) (more : List Pair) (out : List (List Drive)) → PartRuns w (trace_at w t) s hits n more out →
@@ -162,7 +163,7 @@ module _ (w : Scenario) (t place : ℕ) (holder : StationData) (c : Channel) (pa
 
   abbrev sent-first : (ticks : List Pair) × (sent : List (List Drive)) × PartRuns w (trace_at w t) s hits i ticks sent
   sent-first =
-      sent-ticks w t s hits (suc i) so.lag so.fresh so.spent so.rests so.named so.fits some bound own others still takes hands goes-for i (omega arith)
+      sent-ticks w t s hits (suc i) so.lag so.stays so.fresh so.spent so.rests so.named so.fits some bound own others still takes hands goes-for i (omega arith)
 
   abbrev ticks : List Pair
   ticks = sent-first.0
@@ -182,7 +183,7 @@ module _ (w : Scenario) (t place : ℕ) (holder : StationData) (c : Channel) (pa
 
   first-at : IsFirstOf w.lag c hits words ticks
   first-at =
-      first-for w t s hits (suc i) so.lag so.fresh so.spent so.rests so.named so.fits some bound own others still takes hands goes-for i ticks sent
+      first-for w t s hits (suc i) so.lag so.stays so.fresh so.spent so.rests so.named so.fits some bound own others still takes hands goes-for i ticks sent
       (omega arith) sent-first.2
 
   -- with the newest it runs still
@@ -198,7 +199,7 @@ module _ (w : Scenario) (t place : ℕ) (holder : StationData) (c : Channel) (pa
 
   then-trace : trace_at w (t + suc i) ≡ record { shown = (x ∷ ticks) ++ past; driven = (driven ∷ sent) ++ driven_at w t }
   then-trace =
-      trace-is w t s hits (suc i) so.lag so.fresh so.spent so.rests so.named so.fits some bound own others still takes hands goes-for (suc i) (x ∷ ticks)
+      trace-is w t s hits (suc i) so.lag so.stays so.fresh so.spent so.rests so.named so.fits some bound own others still takes hands goes-for (suc i) (x ∷ ticks)
       (driven ∷ sent) whole-at
 
   pub ran : RanFor w t (record { station = answerer; channel = c; part = part; words = words }) hits i
@@ -212,12 +213,12 @@ module _ (w : Scenario) (t place : ℕ) (holder : StationData) (c : Channel) (pa
     all = all-at;
     many = sent-first.2.many;
     before = ap (λ (tr : Trace). tr.shown)
-        (trace-is w t s hits (suc i) so.lag so.fresh so.spent so.rests so.named so.fits some bound own others still takes hands goes-for i ticks sent
+        (trace-is w t s hits (suc i) so.lag so.stays so.fresh so.spent so.rests so.named so.fits some bound own others still takes hands goes-for i ticks sent
         sent-first.2);
     trace = then-trace;
-    passed = leg-passes w t s hits (suc i) so.lag so.fresh so.spent so.rests so.named so.fits some bound own others still takes hands goes-for i (omega arith)
+    passed = leg-passes w t s hits (suc i) so.lag so.stays so.fresh so.spent so.rests so.named so.fits some bound own others still takes hands goes-for i (omega arith)
         0 (counted-by i);
     counted = ap (λ (tr : Trace). commands_in w tr.driven) then-trace ∙ counted-by (suc i) (x ∷ ticks) (driven ∷ sent) whole-at;
-    drives = drives-one w t s hits (suc i) so.lag so.fresh so.spent so.rests so.named so.fits some bound own others still takes hands goes-for i (omega arith);
-    goes_on = goes-on w t s hits (suc i) so.lag so.fresh so.spent so.rests so.named so.fits some bound own others still takes hands goes-for i (omega arith);
+    drives = drives-one w t s hits (suc i) so.lag so.stays so.fresh so.spent so.rests so.named so.fits some bound own others still takes hands goes-for i (omega arith);
+    goes_on = goes-on w t s hits (suc i) so.lag so.stays so.fresh so.spent so.rests so.named so.fits some bound own others still takes hands goes-for i (omega arith);
   }

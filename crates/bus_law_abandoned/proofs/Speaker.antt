@@ -15,17 +15,17 @@ use Rattle.bus_model.specs.Strikes.{hits_on, ShownBurst, burst_end, ShownAnswer}
 use Rattle.bus_model.specs.World.{is_present}
 use Rattle.bus_model.specs.WorldLog.{present_stations}
 use Rattle.bus_law_messages.specs.Settled.{IsServing}
-use Rattle.bus_law_messages.proofs.Sending.{shown-long}
 use Rattle.bus_law_table.proofs.Pairing.{Each}
 use Rattle.bus_law_phases.specs.Answers.{AnswerBegins}
 use Rattle.bus_law_phases.specs.Moments.{HasDuty, Owes, IsServer, IsAfter}
-use Rattle.bus_law_phases.specs.Scenarios.{Scenario, trace_at, shown_at, driven_at, commands_in, course_of, IsPresentAt, NoneTakesFrom}
+use Rattle.bus_law_phases.specs.Scenarios.{Scenario, trace_at, shown_at, driven_at, commands_in, course_of, IsPresentAt, NoneTakesFrom, StaysFrom}
 use Rattle.bus_law_phases.proofs.AnswerBegun.{shown-by, Owed, owed-of, answer-beside, OwesIt, all-owe-it}
 use Rattle.bus_law_phases.proofs.AnswerServers.{owes-none}
 use Rattle.bus_law_phases.proofs.AnswerSpeaking.{replies-from}
 use Rattle.bus_law_phases.proofs.Pairs.{each-of, beside-at}
 use Rattle.bus_law_abandoned.proofs.Others.{Speaks}
 use Rattle.bus_law_abandoned.proofs.Table.{NonePromises}
+use Rattle.bus_law_phases.proofs.Staying.{long-at}
 
 -- who owes and promises nothing is free
 free-duty : (duty : Duty) → is_owed duty ≡ false → is_promise duty ≡ false → duty ≡ free
@@ -41,7 +41,7 @@ pub record HasSpeaker (w : Scenario) (past : List Pair) (place : ℕ) (c : Chann
   pub speaks : Speaks w past place c First words answerer answering
 
 module _ (w : Scenario) (u place : ℕ) (holder : StationData) (burst : ShownBurst) (afters : List After) (first : ShownAnswer) (accepted : IsAccepted w.plan)
-    (begins : AnswerBegins w u place holder First burst afters first) (none : NonePromises afters) (stays : NoneTakesFrom w u) where
+    (begins : AnswerBegins w u place holder First burst afters first) (none : NonePromises afters) (stays : StaysFrom w u) where
   abbrev past : List Pair
   past = shown_at w u
 
@@ -55,7 +55,7 @@ module _ (w : Scenario) (u place : ℕ) (holder : StationData) (burst : ShownBur
   Now = IsAfter w past place holder c e First
 
   long : length (shown_at w u) ≡ u
-  long = shown-long w.lag w.plan w.loads w.outside w.absent u
+  long = long-at w u stays
 
   found : answer_to burst afters ≡ Some first.sent
   found = (shown-by (hits_on w.plan.faults (commands_in w (driven_at w u)) First) (answer_to burst afters) first begins.shown).sent
@@ -105,7 +105,7 @@ module _ (w : Scenario) (u place : ℕ) (holder : StationData) (burst : ShownBur
         apart = apart;
         replies = replies-from w past station c e First first.sent.words owes-it is-due;
         frees = is-free;
-        stays = subst (NoneTakesFrom w) (sym long) stays;
+        stays = subst (NoneTakesFrom w) (sym long) stays.takes;
       };
     }
 

@@ -20,12 +20,11 @@ use Rattle.bus_model.specs.World.{Trace}
 use Rattle.bus_law_line.specs.Senders.{attempt_to_come}
 use Rattle.bus_law_line.specs.Shown.{first_samples}
 use Rattle.bus_law_messages.proofs.Listening.{moments-shown, moments-many}
-use Rattle.bus_law_messages.proofs.Sending.{shown-long}
 use Rattle.bus_law_parts.specs.Parts.{HitsFit, part_ticks, part_sample}
 use Rattle.bus_law_stations.specs.Messages.{message_begun}
 use Rattle.bus_law_stations.specs.Turns.{moments_of}
 use Rattle.bus_law_phases.specs.Commands.{begun_at, command_at}
-use Rattle.bus_law_phases.specs.Scenarios.{Scenario, trace_at, shown_at, course_of, hearing_of}
+use Rattle.bus_law_phases.specs.Scenarios.{Scenario, trace_at, shown_at, course_of, hearing_of, StaysFrom}
 use Rattle.bus_law_moments.specs.Begun.{CommandKnown, MessageBegan}
 use Rattle.bus_law_beside.specs.Beside.{BeginsBeside, is_valid, sent_beside, shown_beside, ends_before, by_ends, found_beside}
 use Rattle.bus_law_beside.proofs.BesideBegins as start
@@ -38,6 +37,7 @@ use Rattle.bus_law_beside.proofs.RowLaws.{row-part}
 use Rattle.bus_law_beside.proofs.StruckFirst.{never-ordered, none-ordered}
 use Rattle.bus_law_beside.proofs.StopTicks.{BreaksOff, breaks-off, shown-ends, valid-over}
 use Rattle.bus_law_beside.proofs.Teller as teller
+use Rattle.bus_law_phases.proofs.Staying.{long-at}
 
 -- ---- the last of two bursts
 
@@ -219,8 +219,11 @@ module _ (w : Scenario) (t place : ℕ) (holder : StationData) (stations : List 
   from-now : From now (length past)
   from-now = known-from w t place holder stations entry old p o os is_old valid sends m breaks orders late short
 
+  stays-now : StaysFrom w t
+  stays-now = olds.stays-now w t place holder stations entry old p
+
   long-past : length past ≡ t
-  long-past = ap (λ (tr : Trace). length tr.shown) (sym same-now) ∙ shown-long w.lag w.plan w.loads w.outside w.absent t
+  long-past = ap (λ (tr : Trace). length tr.shown) (sym same-now) ∙ long-at w t stays-now
 
   from-then-on : From (trace_at w t) t
   from-then-on = subst (λ tr. From tr t) (sym same-now) (subst (From now) long-past from-now)
@@ -251,7 +254,7 @@ module _ (w : Scenario) (t place : ℕ) (holder : StationData) (stations : List 
     lag = p.lag;
     accepted = p.accepted;
     entry_of = p.entry_of;
-    none = λ other station at tick low. p.none other station at tick (let some = p.beside.some in omega (arith, low, some));
+    none = stays-now;
     apart = p.apart;
     ranged = p.ranged;
     blocks = p.blocks;

@@ -96,7 +96,7 @@ module _ (w : Scenario) (t place : ℕ) (holder : StationData) (stations : List 
 
   stays : (other : ℕ) (station : StationData) → IsPresentAt w other station → (tick : ℕ) → length before ≤ tick →
       outside_takes w.lag station (starts w.plan station) w.loads w.outside tick w.outside ≡ []
-  stays other station at tick low = p.none other station at tick (let long = long-before in omega (arith, low, long))
+  stays other station at tick low = p.beside.stays.takes other station at tick (let long = long-before in omega (arith, low, long))
 
   number : length (o ∷ os) ≡ t - old.sent.start
   number = (start.runs-so w t place holder stations entry old p o os is_old valid sends m breaks).many

@@ -24,7 +24,6 @@ use Rattle.bus_model.specs.World.{Trace}
 use Rattle.bus_law_line.specs.Shown.{first_samples}
 use Rattle.bus_law_line.specs.Senders.{IsSpent}
 use Rattle.bus_law_messages.proofs.Listening.{this-or-other}
-use Rattle.bus_law_messages.proofs.Sending.{shown-long}
 use Rattle.bus_law_parts.specs.Parts.{IsFresh, part_ticks, part_sample}
 use Rattle.bus_law_parts.proofs.Leavings.{spent-part, fresh-part, fresh-silent}
 use Rattle.bus_law_parts.proofs.PartBursts.{heard-last, row-tail}
@@ -40,6 +39,7 @@ use Rattle.bus_law_beside.proofs.BothBursts as order
 use Rattle.bus_law_beside.proofs.OldStations as olds
 use Rattle.bus_law_beside.proofs.RowLaws.{row-part, quiet-end}
 use Rattle.bus_law_beside.proofs.StopTicks.{BreaksOff}
+use Rattle.bus_law_phases.proofs.Staying.{long-at}
 
 -- ---- both channels are quiet
 
@@ -143,7 +143,7 @@ module _ (w : Scenario) (t place : ℕ) (holder : StationData) (stations : List 
   pub long-past : length past ≡ t
   long-past =
       sym (ap (λ (tr : Trace). length tr.shown) (start.same-now w t place holder stations entry old p o os is_old valid sends m breaks))
-      ∙ shown-long w.lag w.plan w.loads w.outside w.absent t
+      ∙ long-at w t (olds.stays-now w t place holder stations entry old p)
 
   pub both-long : length (ticks ++ (o ∷ os)) ≡ (t - old.sent.start) + (part_ticks hits words + w.lag)
   both-long = let all = length-append ticks (o ∷ os) in omega (arith, all, number, many)

@@ -123,7 +123,7 @@ module _ (w : Scenario) (t place : ℕ) (holder : StationData) (stations : List 
       outside_takes w.lag telling (starts w.plan telling) w.loads w.outside tick w.outside ≡ []
   stays-teller j tick low high =
       let long = olds.long-before w t place holder stations entry old p in
-      p.none p.beside.teller telling p.beside.teller_at tick (omega (arith, long, low))
+      p.beside.stays.takes p.beside.teller telling p.beside.teller_at tick (omega (arith, long, low))
 
   pub teller-still : (ticks : List Pair) → Shows ticks → course_of w telling (ticks ++ past) ≡ course_of w telling before
   teller-still ticks so =

@@ -13,16 +13,15 @@ use Rattle.bus_model.specs.Starts.{Entry, starts}
 use Rattle.bus_model.specs.Strikes.{ShownAnswer}
 use Rattle.bus_model.specs.Transmissions.{drives_on, station_drive}
 use Rattle.bus_model.specs.Wire.{shown, drivers}
-use Rattle.bus_model.specs.World.{Trace, drives_after, drivers_in, run_is_over, ticks_on}
+use Rattle.bus_model.specs.World.{Trace, drives_after, ticks_on}
 use Rattle.bus_model.specs.WorldLog.{present_stations, attempt_at, ended_by, attempts}
 use Rattle.bus_law_control.proofs.Holding.{ended-before}
-use Rattle.bus_law_messages.proofs.LaterTicks.{trace-later}
 use Rattle.bus_law_messages.proofs.Listening.{this-or-other}
 use Rattle.bus_law_parts.proofs.Counting.{count-command}
 use Rattle.bus_law_table.specs.Happened.{block_at, took_in, blocks_in as blocks_now, blocks_found}
 use Rattle.bus_law_table.proofs.Pairing.{none-each}
 use Rattle.bus_law_phases.specs.Passages.{HoldsAlone, IsOrderly}
-use Rattle.bus_law_phases.specs.Scenarios.{Scenario, trace_at, shown_at, driven_at, blocks_in, attempts_in, commands_in, course_of, standing_of, IsPresentAt}
+use Rattle.bus_law_phases.specs.Scenarios.{Scenario, trace_at, shown_at, driven_at, blocks_in, attempts_in, commands_in, course_of, standing_of, IsPresentAt, drivers_at, is_over_at}
 use Rattle.bus_law_phases.proofs.Legs.{busy-goes-on}
 use Rattle.bus_law_phases.proofs.Resting.{each-present, no-attempt, none-of-each}
 use Rattle.bus_law_beside.specs.Beside.{BeginsBeside}
@@ -31,6 +30,8 @@ use Rattle.bus_law_beside.proofs.BesideDrives as both
 use Rattle.bus_law_beside.proofs.BesideKeeps as keeps
 use Rattle.bus_law_beside.proofs.StopTicks.{BreaksOff}
 use Rattle.bus_law_beside.proofs.TwoSenders as two
+use Rattle.bus_law_phases.proofs.Staying.{ticks-later}
+use Rattle.bus_law_beside.proofs.OldStations as olds
 
 module _ (w : Scenario) (t place : ℕ) (holder : StationData) (stations : List Present) (entry : Entry) (old : ShownAnswer)
     (p : BeginsBeside w t place holder stations entry old) (o : Pair) (os : List Pair) (is_old : p.beside.ticks ≡ o ∷ os) (valid : Bool) (sends m : ℕ)
@@ -89,7 +90,7 @@ module _ (w : Scenario) (t place : ℕ) (holder : StationData) (stations : List 
   pub trace-is : (n : ℕ) (ticks : List Pair) (sent : List (List Drive)) → Runs n ticks sent →
       trace_at w (t + n) ≡ record { shown = ticks ++ past; driven = sent ++ now.driven }
   trace-is n ticks sent so =
-      sym (trace-later w.lag w.plan w.loads w.outside w.absent t n)
+      sym (ticks-later w t n (olds.stays-now w t place holder stations entry old p))
       ∙ ap (λ tr. ticks_on w.lag w.plan w.loads w.outside w.absent tr n) (start.same-now w t place holder stations entry old p o os is_old valid sends m breaks)
       ∙ so.world
 
@@ -157,7 +158,7 @@ module _ (w : Scenario) (t place : ℕ) (holder : StationData) (stations : List 
   next-tick : (j : ℕ) → t + suc j ≡ suc (t + j)
   next-tick j = omega arith
 
-  pub drives-one : (j : ℕ) → j < limit → (a : Channel) → drivers_in w.lag w.plan w.loads w.outside w.absent (t + j) a ≤ 1
+  pub drives-one : (j : ℕ) → j < limit → (a : Channel) → drivers_at w (t + j) a ≤ 1
   drives-one j early a =
       let so = ran j (omega (arith, early)) in
       let then : Runs (suc j) (shown_then so.0 so.1 ∷ so.0) (next so.0 ∷ so.1) = more j so.0 so.1 early so.2 in
@@ -173,7 +174,7 @@ module _ (w : Scenario) (t place : ℕ) (holder : StationData) (stations : List 
             (two.command-alone w (trace_at w old.sent.start) (o ∷ os) p.beside.sent command answer sends m limit begins drives j so.0 so.1 early so.2)
       ]))
 
-  pub goes-on : (j : ℕ) → j < limit → run_is_over w.lag w.plan w.loads w.outside w.absent (t + j) ≡ false
+  pub goes-on : (j : ℕ) → j < limit → is_over_at w (t + j) ≡ false
   goes-on j early =
       let so = ran j (omega (arith, early)) in
       busy-goes-on w (t + j) (so.0 ++ past) (shown-is j so.0 so.1 so.2)

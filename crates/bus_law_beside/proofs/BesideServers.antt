@@ -98,7 +98,7 @@ module _ (w : Scenario) (t place : ℕ) (holder : StationData) (stations : List 
   stays : (other : ℕ) (station : StationData) → IsPresentAt w other station → (tick : ℕ) → length before ≤ tick →
       outside_takes w.lag station (starts w.plan station) w.loads w.outside tick w.outside ≡ []
   stays other station at tick low =
-      let long = olds.long-before w t place holder stations entry old p in p.none other station at tick (omega (arith, long, low))
+      let long = olds.long-before w t place holder stations entry old p in p.beside.stays.takes other station at tick (omega (arith, long, low))
 
   -- ---- the one whose answer was abandoned
 

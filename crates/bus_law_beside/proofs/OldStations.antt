@@ -20,16 +20,15 @@ use Rattle.bus_law_duties.proofs.Struck.{struck-left, take-left}
 use Rattle.bus_law_parts.specs.Parts.{HitsFit, part_ticks}
 use Rattle.bus_law_messages.specs.Settled.{IsServing}
 use Rattle.bus_law_messages.specs.Promises.{IsReplying}
-use Rattle.bus_law_messages.proofs.LaterTicks.{trace-later}
-use Rattle.bus_law_messages.proofs.Sending.{shown-long}
 use Rattle.bus_law_phases.specs.Moments.{HasDuty, Owes, IsServer, IsAfter}
-use Rattle.bus_law_phases.specs.Scenarios.{Scenario, trace_at, shown_at, driven_at, commands_in, course_of, IsPresentAt}
+use Rattle.bus_law_phases.specs.Scenarios.{Scenario, trace_at, shown_at, driven_at, commands_in, course_of, IsPresentAt, StaysFrom}
 use Rattle.bus_law_phases.proofs.AnswerBegun.{IsShownBy, shown-by, answer-fits, Owed, owed-of, answer-beside, OwesIt, all-owe-it, addresses-apart}
 use Rattle.bus_law_phases.proofs.AnswerServers.{owes-none, other-address}
 use Rattle.bus_law_phases.proofs.AnswerSpeaking.{replies-from}
 use Rattle.bus_law_phases.proofs.Pairs.{each-of, beside-at}
 use Rattle.bus_law_phases.proofs.Spares.{all-at}
 use Rattle.bus_law_beside.specs.Beside.{BeginsBeside}
+use Rattle.bus_law_phases.proofs.Staying.{long-at, ticks-later, stays-later}
 
 module _ (w : Scenario) (t place : ℕ) (holder : StationData) (stations : List Present) (entry : Entry) (old : ShownAnswer)
     (p : BeginsBeside w t place holder stations entry old) where
@@ -70,8 +69,11 @@ module _ (w : Scenario) (t place : ℕ) (holder : StationData) (stations : List 
   pub start-is : old.burst.start ≡ old.sent.start
   start-is = ap (λ (b : ShownBurst). b.start) is.burst
 
+  pub stays-now : StaysFrom w t
+  stays-now = stays-later w old.sent.start t (let some = p.beside.some in omega (arith, some)) p.beside.stays
+
   pub long-before : length before ≡ old.sent.start
-  long-before = shown-long w.lag w.plan w.loads w.outside w.absent old.sent.start
+  long-before = long-at w old.sent.start p.beside.stays
 
   -- so many ticks of it came before the command
   pub n : ℕ
@@ -82,7 +84,7 @@ module _ (w : Scenario) (t place : ℕ) (holder : StationData) (stations : List 
   then-is =
       let some = p.beside.some in
       let at : old.sent.start + (t - old.sent.start) ≡ t = omega (arith, some) in
-      ap (trace_at w) (sym at) ∙ sym (trace-later w.lag w.plan w.loads w.outside w.absent old.sent.start (t - old.sent.start)) ∙ p.beside.runs.world
+      ap (trace_at w) (sym at) ∙ sym (ticks-later w old.sent.start (t - old.sent.start) p.beside.stays) ∙ p.beside.runs.world
 
   -- ---- who sends it
 

@@ -25,9 +25,8 @@ use Rattle.bus_model.specs.Starts.{Entry, starts}
 use Rattle.bus_model.specs.Strikes.{ShownAnswer, struck}
 use Rattle.bus_model.specs.Terminal.{took_now}
 use Rattle.bus_model.specs.Wire.{drivers}
-use Rattle.bus_model.specs.World.{Trace, ticks_on, drivers_in, run_is_over}
+use Rattle.bus_model.specs.World.{Trace, ticks_on}
 use Rattle.bus_law_control.proofs.Holding.{heard-nothing}
-use Rattle.bus_law_messages.proofs.LaterTicks.{trace-later}
 use Rattle.bus_law_messages.proofs.Listening.{this-or-other}
 use Rattle.bus_law_messages.proofs.Sending.{place-drives, place-silent}
 use Rattle.bus_law_parts.proofs.Counting.{count-without}
@@ -35,7 +34,7 @@ use Rattle.bus_law_table.proofs.Takes.{unheard-takes}
 use Rattle.bus_law_phases.specs.Answers.{attempts_ended}
 use Rattle.bus_law_phases.specs.Commands.{attempt_recorded}
 use Rattle.bus_law_phases.specs.Passages.{HoldsAlone, IsOrderly}
-use Rattle.bus_law_phases.specs.Scenarios.{Scenario, trace_at, shown_at, driven_at, blocks_in, attempts_in, commands_in, course_of, hearing_of, IsPresentAt}
+use Rattle.bus_law_phases.specs.Scenarios.{Scenario, trace_at, shown_at, driven_at, blocks_in, attempts_in, commands_in, course_of, hearing_of, IsPresentAt, drivers_at, is_over_at}
 use Rattle.bus_law_phases.proofs.AnswerHolders.{closed-attempts, no-attempts}
 use Rattle.bus_law_phases.proofs.AnswerQuiet.{quiet-goes-on}
 use Rattle.bus_law_beside.specs.Beside.{BeginsBeside}
@@ -52,6 +51,8 @@ use Rattle.bus_law_beside.proofs.TailQuiet as still
 use Rattle.bus_law_beside.proofs.TailTeller as tailing
 use Rattle.bus_law_beside.proofs.TwoSenders.{old_drive}
 use Rattle.bus_law_beside.proofs.TailSteps.{none-taken, one-ends, by-yes, by-no}
+use Rattle.bus_law_phases.proofs.Staying.{ticks-later, stays-later}
+use Rattle.bus_law_beside.proofs.OldStations as olds
 
 module _ (w : Scenario) (t place : ℕ) (holder : StationData) (stations : List Present) (entry : Entry) (old : ShownAnswer)
     (p : BeginsBeside w t place holder stations entry old) (o : Pair) (os : List Pair) (is_old : p.beside.ticks ≡ o ∷ os) (valid : Bool) (sends m : ℕ)
@@ -144,7 +145,7 @@ module _ (w : Scenario) (t place : ℕ) (holder : StationData) (stations : List 
             m breaks orders;
       }
   trace-is n ys zs so =
-      sym (trace-later w.lag w.plan w.loads w.outside w.absent from n)
+      sym (ticks-later w from n (stays-later w t from (omega arith) (olds.stays-now w t place holder stations entry old p)))
       ∙ ap (λ tr. ticks_on w.lag w.plan w.loads w.outside w.absent tr n)
       (end.trace-then w t place holder stations entry old p o os is_old valid sends m breaks orders)
       ∙ so.world
@@ -199,12 +200,12 @@ module _ (w : Scenario) (t place : ℕ) (holder : StationData) (stations : List 
           (tail.command-alone w t place holder stations entry old p o os is_old valid sends m breaks orders limit drives j ys zs low so)
     ]
 
-    drives-so : (a : Channel) → drivers_in w.lag w.plan w.loads w.outside w.absent (from + j) a ≤ 1
+    drives-so : (a : Channel) → drivers_at w (from + j) a ≤ 1
     drives-so a =
         subst (λ u. drivers w.plan.faults a (driven_at w u) ≤ 1) (next-tick from j)
         (subst (λ ds. drivers w.plan.faults a ds ≤ 1) (sym next-driven) (drives-then a))
 
-  drives-one : (j : ℕ) → j < limit → (a : Channel) → drivers_in w.lag w.plan w.loads w.outside w.absent (from + j) a ≤ 1
+  drives-one : (j : ℕ) → j < limit → (a : Channel) → drivers_at w (from + j) a ≤ 1
   drives-one j low =
       let so = ran j (omega (arith, low)) in drives-so j so.0 so.1 so.2 low
 
@@ -214,7 +215,7 @@ module _ (w : Scenario) (t place : ℕ) (holder : StationData) (stations : List 
       let many = so.2.many in
       subst (HoldsAlone w) (sym (shown-is j so.0 so.1 so.2)) (held so.0 so.2.tail (omega (arith, many, low)))
 
-  goes-on : (j : ℕ) → j < limit → run_is_over w.lag w.plan w.loads w.outside w.absent (from + j) ≡ false
+  goes-on : (j : ℕ) → j < limit → is_over_at w (from + j) ≡ false
   goes-on j low =
       let so = ran j (omega (arith, low)) in
       let many = so.2.many in

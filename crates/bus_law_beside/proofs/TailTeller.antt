@@ -118,7 +118,7 @@ module _ (w : Scenario) (t place : ℕ) (holder : StationData) (stations : List 
 
   stays : (tick : ℕ) → length before ≤ tick → outside_takes w.lag telling (starts w.plan telling) w.loads w.outside tick w.outside ≡ []
   stays tick low =
-      let long = olds.long-before w t place holder stations entry old p in p.none p.beside.teller telling p.beside.teller_at tick (omega (arith, long, low))
+      let long = olds.long-before w t place holder stations entry old p in p.beside.stays.takes p.beside.teller telling p.beside.teller_at tick (omega (arith, long, low))
 
   less : (y : Pair) (ys : List Pair) → IsTail (y ∷ ys) → IsTail ys
   less = tail.less w t place holder stations entry old p o os is_old valid sends m breaks orders

@@ -32,7 +32,6 @@ use Rattle.bus_model.specs.World.{Trace}
 use Rattle.bus_law_line.specs.Senders.{attempt_to_come}
 use Rattle.bus_law_line.specs.Shown.{first_samples}
 use Rattle.bus_law_messages.proofs.Listening.{moments-shown, moments-many}
-use Rattle.bus_law_messages.proofs.Sending.{shown-long}
 use Rattle.bus_law_parts.specs.Parts.{part_ticks, part_sample}
 use Rattle.bus_law_stations.specs.Messages.{message_begun}
 use Rattle.bus_law_stations.specs.Turns.{moments_of}
@@ -53,6 +52,7 @@ use Rattle.bus_law_beside.proofs.StopTicks.{BreaksOff, breaks-off, shown-ends}
 use Rattle.bus_law_beside.proofs.Tail as tail
 use Rattle.bus_law_beside.proofs.TailFrom.{TailFrom, tail-from}
 use Rattle.bus_law_beside.proofs.Teller as teller
+use Rattle.bus_law_phases.proofs.Staying.{long-at}
 
 -- ---- the message of the table
 
@@ -310,7 +310,7 @@ module _ (w : Scenario) (t place : ℕ) (holder : StationData) (stations : List 
       from-now = tail-from w t place holder stations entry old p o os is_old false sends m breaks orders refl never shape-is.0 shape-is.1 runs-on
 
       long-past : length ((o ∷ os) ++ before) ≡ t
-      long-past = ap (λ (tr : Trace). length tr.shown) (sym same-now) ∙ shown-long w.lag w.plan w.loads w.outside w.absent t
+      long-past = ap (λ (tr : Trace). length tr.shown) (sym same-now) ∙ long-at w t (olds.stays-now w t place holder stations entry old p)
 
       from-then-on : From (trace_at w t) t
       from-then-on = subst (λ tr. From tr t) (sym same-now) (subst (From now) long-past from-now)

@@ -19,7 +19,7 @@ use Rattle.bus_law_duties.specs.Duties.{AreApart}
 use Rattle.bus_law_plans.specs.Entries.{IsEntryOf}
 use Rattle.bus_law_plans.specs.Memories.{AreBlocks}
 use Rattle.bus_law_stations.specs.Messages.{BeginsMessage}
-use Rattle.bus_law_phases.specs.Scenarios.{Scenario, shown_at, course_of, NoneTakesFrom}
+use Rattle.bus_law_phases.specs.Scenarios.{Scenario, shown_at, course_of}
 use Rattle.bus_law_moments.specs.Begun.{IsRanged, MessageBegan}
 use Rattle.bus_law_moments.specs.OldAnswers.{BesideOldAnswer}
 use Rattle.bus_law_moments.specs.Told.{MessageTold}
@@ -72,7 +72,6 @@ pub record BeginsBeside (w : Scenario) (t place : ℕ) (holder : StationData) (s
   pub entry_of : IsEntryOf w.plan holder.terminal.address entry
   pub beside : BesideOldAnswer w t place holder stations old
   pub begins : BeginsMessage (course_of w holder (shown_at w t)) (shown_at w t) entry
-  pub none : NoneTakesFrom w old.sent.start
   pub apart : AreApart stations
   pub ranged : Each IsRanged stations
   pub supersedes : Supersedes old.sent.address entry.item.kind

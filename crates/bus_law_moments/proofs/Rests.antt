@@ -13,14 +13,14 @@ use Rattle.bus_law_plans.specs.Memories.{AreBlocks}
 use Rattle.bus_law_stations.specs.Messages.{BeginsMessage}
 use Rattle.bus_law_phases.specs.Commands.{command_at, CommandPasses}
 use Rattle.bus_law_phases.specs.Rests.{Rested}
-use Rattle.bus_law_phases.specs.Scenarios.{Scenario, trace_at, shown_at, course_of, NoneTakesFrom}
+use Rattle.bus_law_phases.specs.Scenarios.{Scenario, trace_at, shown_at, course_of, StaysFrom}
 use Rattle.bus_law_phases.proofs.CommandPhase.{command-passes}
 use Rattle.bus_law_phases.proofs.SilencedItems.{items-first, items-command}
 use Rattle.bus_law_moments.specs.Begun.{IsRanged, MessageBegan}
 
 pub began-rested : (w : Scenario) (t place : ℕ) (holder : StationData) (stations : List Present) (entry : Entry) → w.lag ≡ 3 → IsAccepted w.plan →
     AreBlocks w.loads → IsEntryOf w.plan holder.terminal.address entry → Rested w (trace_at w t) place holder stations →
-    BeginsMessage (course_of w holder (shown_at w t)) (shown_at w t) entry → NoneTakesFrom w t → AreApart stations → Each IsRanged stations →
+    BeginsMessage (course_of w holder (shown_at w t)) (shown_at w t) entry → StaysFrom w t → AreApart stations → Each IsRanged stations →
     MessageBegan w t holder entry place stations [] (command_at w t t holder entry ∷ [])
 began-rested w t place holder stations entry lag accepted blocks of rested starts none apart ranged =
     let passes : CommandPasses w t t holder entry place stations =

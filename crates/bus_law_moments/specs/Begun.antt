@@ -24,7 +24,7 @@ use Rattle.bus_law_phases.specs.Closings.{HasItemsOf}
 use Rattle.bus_law_phases.specs.Commands.{begun_at, command_at, command_known, ended_with_command}
 use Rattle.bus_law_phases.specs.Moments.{Underway}
 use Rattle.bus_law_phases.specs.Passages.{Passage}
-use Rattle.bus_law_phases.specs.Scenarios.{Scenario, trace_at, shown_at, course_of, NoneTakesFrom}
+use Rattle.bus_law_phases.specs.Scenarios.{Scenario, trace_at, shown_at, course_of, StaysFrom}
 
 -- the numbers of a station that is present are in their ranges: those that are planned of its terminal, and what that keeps
 abbrev pub IsRanged : Present → Type 0
@@ -64,7 +64,7 @@ module _ (w : Scenario) (t : ℕ) (holder : StationData) (entry : Entry) where
     pub lag : w.lag ≡ 3
     pub accepted : IsAccepted w.plan
     pub entry_of : IsEntryOf w.plan holder.terminal.address entry
-    pub none : NoneTakesFrom w t
+    pub none : StaysFrom w t
     pub apart : AreApart stations
     pub ranged : Each IsRanged stations
     pub blocks : AreBlocks w.loads

@@ -15,7 +15,7 @@ use Rattle.bus_law_stations.specs.Turns.{Serves}
 use Rattle.bus_law_table.specs.Stations.{ArePresent}
 use Rattle.bus_law_phases.specs.Answers.{AnswerBegins}
 use Rattle.bus_law_phases.specs.PartRuns.{PartRuns}
-use Rattle.bus_law_phases.specs.Scenarios.{Scenario, trace_at, shown_at, course_of, IsPresentAt}
+use Rattle.bus_law_phases.specs.Scenarios.{Scenario, trace_at, shown_at, course_of, IsPresentAt, StaysFrom}
 
 -- in tick t an answer runs that was abandoned with the newest tick, and the next message of the station at this place starts
 pub record BesideOldAnswer (w : Scenario) (t place : ℕ) (holder : StationData) (stations : List Present) (old : ShownAnswer) : Type 0 where
@@ -25,6 +25,8 @@ pub record BesideOldAnswer (w : Scenario) (t place : ℕ) (holder : StationData)
   pub begins : AnswerBegins w old.sent.start place holder First burst afters old
   -- and none of them promised to take it: it answers a message that transmits
   pub unpromised : All (λ after. is_promise after.duty ≡ false) afters
+  -- since then the same stations are there, and nobody took control by itself
+  pub stays : StaysFrom w old.sent.start
   -- so far the station at this place sent it alone, and the newest sample of it isn't quiet
   pub teller : ℕ
   pub telling : StationData

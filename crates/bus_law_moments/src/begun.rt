@@ -12,7 +12,7 @@ ghost use Rattle.bus_law_plans.specs.Memories.{AreBlocks};
 ghost use Rattle.bus_law_stations.specs.Messages.{BeginsMessage};
 ghost use Rattle.bus_law_phases.specs.Commands.{command_at};
 ghost use Rattle.bus_law_phases.specs.Rests.{Rested};
-ghost use Rattle.bus_law_phases.specs.Scenarios.{Scenario, trace_at, shown_at, course_of, NoneTakesFrom};
+ghost use Rattle.bus_law_phases.specs.Scenarios.{Scenario, trace_at, shown_at, course_of, StaysFrom};
 ghost use Rattle.bus_law_moments.specs.Begun.{IsRanged, MessageBegan};
 
 /// A message that begins between two others: the end of its command becomes known, with nothing found before it but its own. At lag 3, for any
@@ -20,6 +20,6 @@ ghost use Rattle.bus_law_moments.specs.Begun.{IsRanged, MessageBegan};
 pub fn a_message_begins_between_two_others()
     ensures { (w : Scenario) (t place : ℕ) (holder : StationData) (stations : List Present) (entry : Entry) → w.lag ≡ 3 → IsAccepted w.plan →
         AreBlocks w.loads → IsEntryOf w.plan holder.terminal.address entry → Rested w (trace_at w t) place holder stations →
-        BeginsMessage (course_of w holder (shown_at w t)) (shown_at w t) entry → NoneTakesFrom w t → AreApart stations → Each IsRanged stations →
+        BeginsMessage (course_of w holder (shown_at w t)) (shown_at w t) entry → StaysFrom w t → AreApart stations → Each IsRanged stations →
         MessageBegan w t holder entry place stations [] (command_at w t t holder entry ∷ []) }
 {}

@@ -11,16 +11,16 @@ use Rattle.bus_model.specs.Standing.{is_owed}
 use Rattle.bus_model.specs.Strikes.{hits_on, ShownBurst, burst_end, ShownAnswer, shown_answer}
 use Rattle.bus_model.specs.WorldLog.{present_stations}
 use Rattle.bus_law_line.specs.Senders.{attempt_to_come}
-use Rattle.bus_law_messages.proofs.Sending.{shown-long}
 use Rattle.bus_law_offers.specs.Passing.{HoldsToEnd, AcceptOver}
 use Rattle.bus_law_offers.proofs.AcceptEnd.{accept-over}
 use Rattle.bus_law_parts.specs.Parts.{part_ticks, HitsFit}
 use Rattle.bus_law_phases.specs.Answers.{IsStatusWithData, burst_read}
 use Rattle.bus_law_phases.specs.Moments.{HasDuty, Owes, IsServer, IsAfter, Underway}
-use Rattle.bus_law_phases.specs.Scenarios.{Scenario, trace_at, shown_at, driven_at, commands_in, IsPresentAt, NoneTakesFrom}
+use Rattle.bus_law_phases.specs.Scenarios.{Scenario, trace_at, shown_at, driven_at, commands_in, IsPresentAt, StaysFrom}
 use Rattle.bus_law_phases.specs.Silences.{GoesOnTo}
 use Rattle.bus_law_phases.proofs.AnswerBegun.{IsShownBy, shown-by, answer-fits, Owed, owed-of, answer-beside}
 use Rattle.bus_law_phases.proofs.AnswerLeft.{answer_burst}
+use Rattle.bus_law_phases.proofs.Staying.{long-at}
 
 -- in tick t the first answer to a burst begins, by which a terminal accepts control, and something of it is shown
 pub record AcceptBegins (w : Scenario) (t place : ℕ) (holder : StationData) (burst : ShownBurst) (afters : List After) (answer : ShownAnswer) : Type 0 where
@@ -42,14 +42,14 @@ pub record IsAcceptedBy (w : Scenario) (t place : ℕ) (holder : StationData) (b
   pub over : AcceptOver w t (burst_end answer.burst + suc w.lag) place holder answerer answering burst afters answer.hits answer.sent.words answer.burst later
 
 module _ (w : Scenario) (t place : ℕ) (holder : StationData) (burst : ShownBurst) (afters : List After) (answer : ShownAnswer)
-    (later : Course) (lag : w.lag ≡ 3) (accepted : IsAccepted w.plan) (stays : NoneTakesFrom w t)
+    (later : Course) (lag : w.lag ≡ 3) (accepted : IsAccepted w.plan) (stays : StaysFrom w t)
     (begins : AcceptBegins w t place holder burst afters answer)
     (controls : HoldsToEnd w (shown_at w t) holder burst.channel answer.hits answer.sent.words (burst_read answer.burst) later) where
   is : IsShownBy (hits_on w.plan.faults (commands_in w (driven_at w t)) First) (answer_to burst afters) answer
   is = shown-by (hits_on w.plan.faults (commands_in w (driven_at w t)) First) (answer_to burst afters) answer begins.shown
 
   long : length (shown_at w t) ≡ t
-  long = shown-long w.lag w.plan w.loads w.outside w.absent t
+  long = long-at w t stays
 
   named : hits_on w.plan.faults (attempt_to_come w.plan.faults First (driven_at w t)) First ≡ answer.hits
   named =

@@ -34,13 +34,14 @@ use Rattle.bus_law_parts.proofs.Counting.{count-answer}
 use Rattle.bus_law_phases.specs.Moments.{Owes}
 use Rattle.bus_law_phases.specs.PartRuns.{IsFirstOf, PartRuns}
 use Rattle.bus_law_phases.specs.Passages.{HoldsAlone}
-use Rattle.bus_law_phases.specs.Scenarios.{Scenario, trace_at, shown_at, driven_at, commands_in, course_of, hearing_of, IsPresentAt, NoneTakesFrom}
+use Rattle.bus_law_phases.specs.Scenarios.{Scenario, trace_at, shown_at, driven_at, commands_in, course_of, hearing_of, IsPresentAt, NoneTakesFrom, StaysFrom}
 use Rattle.bus_law_phases.specs.Silences.{GoesOnTo}
 use Rattle.bus_law_phases.proofs.AnswerQuiet.{answer-goes-on}
 use Rattle.bus_law_phases.proofs.AnswerSending.{listens-takes, by-three}
 use Rattle.bus_law_phases.proofs.PartTicks.{PartTicks, all-ticks}
 use Rattle.bus_law_stations.proofs.Turning.{serving-same}
 use Rattle.bus_law_table.proofs.Takes.{unheard-takes}
+use Rattle.bus_law_phases.proofs.Staying.{long-at}
 
 -- the tick in which a station begins an answer by which it accepts control, to a burst that ended in tick e
 pub record Accepts (w : Scenario) (past : List Pair) (place : ℕ) (holder : StationData) (c : Channel) (e : ℕ) (part : Part) (words : List Word)
@@ -146,7 +147,7 @@ module _ (w : Scenario) (past : List Pair) (place : ℕ) (holder : StationData) 
 -- ---- the ticks of the answer
 
 module _ (w : Scenario) (t place : ℕ) (holder : StationData) (c : Channel) (e : ℕ) (part : Part) (words : List Word) (hits : List Hit) (answerer : ℕ)
-    (answering : StationData) (lag : w.lag ≡ 3) (long : length (shown_at w t) ≡ t)
+    (answering : StationData) (lag : w.lag ≡ 3) (stays : StaysFrom w t)
     (so : Accepts w (shown_at w t) place holder c e part words hits answerer answering)
     (fresh : IsFresh w.plan.faults c (driven_at w t) answerer)
     (spent : (d : Channel) (station : ℕ) → IsSpent w.plan.faults d (driven_at w t) station)
@@ -167,10 +168,10 @@ module _ (w : Scenario) (t place : ℕ) (holder : StationData) (c : Channel) (e 
 
   pub accept-ticks : PartTicks w t (record { station = answerer; channel = c; part = part; words = words }) hits 0
   accept-ticks =
-      all-ticks w t s hits lag fresh spent rests named fits some
+      all-ticks w t s hits lag stays fresh spent rests named fits some
       (λ ticks alone few. own-drives w past place holder c e part words hits answerer answering lag so ticks alone)
       (λ ticks alone few. others-silent w past place holder c e part words hits answerer answering lag so ticks alone)
       (λ ticks alone few other station at. ap (λ (d : Course). d.ended) (all-same w past place holder c e part words hits answerer answering lag so ticks alone other station at))
       (λ y ticks alone few. all-takes w past place holder c e part words hits answerer answering lag so y ticks alone)
       (λ ticks alone few. held w past place holder c e part words hits answerer answering lag so ticks alone)
-      (λ ticks alone few. answer-goes-on w t c past ticks lag long goes alone.alone) 0 counted-by
+      (λ ticks alone few. answer-goes-on w t c past ticks lag (long-at w t stays) goes alone.alone) 0 counted-by

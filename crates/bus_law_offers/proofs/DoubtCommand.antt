@@ -55,7 +55,7 @@ use Rattle.bus_law_phases.specs.Commands.{begun_at, command_at, command_known, e
 use Rattle.bus_law_phases.specs.Moments.{Underway}
 use Rattle.bus_law_phases.specs.PartRuns.{burst_shown, RunsAlone, PartRuns}
 use Rattle.bus_law_phases.specs.Passages.{HoldsAlone, IsOrderly, Passage}
-use Rattle.bus_law_phases.specs.Scenarios.{Scenario, trace_at, shown_at, driven_at, course_of, IsPresentAt, NoneTakesFrom}
+use Rattle.bus_law_phases.specs.Scenarios.{Scenario, trace_at, shown_at, driven_at, course_of, IsPresentAt, StaysFrom}
 use Rattle.bus_law_phases.proofs.AnswerHolders.{closed-attempts, no-attempts}
 use Rattle.bus_law_phases.proofs.PartEnding.{part-bursts}
 use Rattle.bus_law_phases.proofs.PartQuiet.{part-quiet}
@@ -65,7 +65,7 @@ use Rattle.bus_law_phases.proofs.Spares.{one-gives}
 module _ (w : Scenario) (t place : ℕ) (holder : StationData) (stations : List Present) (offer : Begun) (doubt_from : ℕ) (entry : Entry) (lag : w.lag ≡ 3)
     (accepted : IsAccepted w.plan) (of : IsEntryOf w.plan holder.terminal.address entry)
     (rested : RestedInDoubt w (trace_at w t) place holder stations offer doubt_from)
-    (begins : BeginsMessage (course_of w holder (shown_at w t)) (shown_at w t) entry) (stays : NoneTakesFrom w t) (separate : AreApart stations) where
+    (begins : BeginsMessage (course_of w holder (shown_at w t)) (shown_at w t) entry) (stays : StaysFrom w t) (separate : AreApart stations) where
   abbrev past : List Pair
   past = told-first.past w t place holder stations offer doubt_from entry lag accepted of rested begins stays separate
 
@@ -332,7 +332,7 @@ module _ (w : Scenario) (t place : ℕ) (holder : StationData) (stations : List 
 pub began-in-doubt : (w : Scenario) (t place : ℕ) (holder : StationData) (stations : List Present) (offer : Begun) (x : ℕ) (entry : Entry) → w.lag ≡ 3 →
     IsAccepted w.plan → AreBlocks w.loads → IsEntryOf w.plan holder.terminal.address entry →
     (rested : RestedInDoubt w (trace_at w t) place holder stations offer x) →
-    BeginsMessage (course_of w holder (shown_at w t)) (shown_at w t) entry → NoneTakesFrom w t → AreApart stations → Each IsRanged stations →
+    BeginsMessage (course_of w holder (shown_at w t)) (shown_at w t) entry → StaysFrom w t → AreApart stations → Each IsRanged stations →
     MessageBegan w t holder entry place stations (attempt_yielded rested.offerer offer x ∷ []) (command_at w t t holder entry ∷ [])
 began-in-doubt w t place holder stations offer x entry lag accepted blocks of rested begins none apart ranged = record {
   lag = lag;

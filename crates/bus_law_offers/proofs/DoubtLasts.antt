@@ -16,13 +16,12 @@ use Rattle.bus_model.specs.WorldLog.{present_stations}
 use Rattle.bus_law_control.proofs.Doubting.{doubts-later, station-doubts}
 use Rattle.bus_law_messages.specs.Settled.{NoneStarts}
 use Rattle.bus_law_messages.proofs.Pausing.{nothing-starts, serving-still, from-quiet}
-use Rattle.bus_law_messages.proofs.Sending.{shown-long}
 use Rattle.bus_law_moments.specs.Doubts.{IsInDoubt, present_in_doubt, yielded_station, RestedInDoubt}
 use Rattle.bus_law_offers.specs.Still.{IsStill, AllStill}
 use Rattle.bus_law_offers.proofs.Still.{rests-still, doubts-still}
 use Rattle.bus_law_offers.proofs.Stillness.{still-ticks, still-whole, still-passes, still-quiet}
 use Rattle.bus_law_phases.specs.Passages.{HoldsInDoubt, InOneHand, Passage, nothing_happens}
-use Rattle.bus_law_phases.specs.Scenarios.{Scenario, trace_at, shown_at, driven_at, course_of, present_of, IsPresentAt, NoneTakesFrom}
+use Rattle.bus_law_phases.specs.Scenarios.{Scenario, trace_at, shown_at, driven_at, course_of, present_of, IsPresentAt, NoneTakesFrom, StaysFrom}
 use Rattle.bus_law_phases.specs.Silences.{IsQuiet, SomeoneIsBusy}
 use Rattle.bus_law_phases.proofs.AnswerSending.{by-three}
 use Rattle.bus_law_phases.proofs.Lasting.{fresh-later}
@@ -33,6 +32,7 @@ use Rattle.bus_law_stations.proofs.StillController.{pairs-long}
 use Rattle.bus_law_table.specs.Stations.{loaded_at}
 use Rattle.bus_law_table.proofs.Pairing.{beside, beside-map}
 use Rattle.bus_law_table.proofs.Still.{still-told, serving-rests}
+use Rattle.bus_law_phases.proofs.Staying.{long-at}
 
 -- who is taking control, until its tick
 pub takes-by : (c : Course) (past : List Pair) (first : ℕ) → c.opening ≡ taking first → length past ≤ first →
@@ -42,7 +42,7 @@ takes-by c past first opens early =
     ap (taking_from (length past)) opens ∙ rw low refl
 
 module _ (w : Scenario) (t n place : ℕ) (holder : StationData) (stations : List Present) (begun : Begun) (x : ℕ)
-    (moment : RestedInDoubt w (trace_at w t) place holder stations begun x) (few : t + n ≤ x + taking_over) (stays : NoneTakesFrom w t) where
+    (moment : RestedInDoubt w (trace_at w t) place holder stations begun x) (few : t + n ≤ x + taking_over) (stays : StaysFrom w t) where
   abbrev past : List Pair
   past = shown_at w t
 
@@ -50,10 +50,10 @@ module _ (w : Scenario) (t n place : ℕ) (holder : StationData) (stations : Lis
   offerer = moment.offerer
 
   long : length (shown_at w t) ≡ t
-  long = shown-long w.lag w.plan w.loads w.outside w.absent t
+  long = long-at w t stays
 
   stays-here : NoneTakesFrom w (length (shown_at w t))
-  stays-here = subst (NoneTakesFrom w) (sym long) stays
+  stays-here = subst (NoneTakesFrom w) (sym long) stays.takes
 
   -- its first command doesn't start before its tick
   starts-later : NoneStarts (course_of w holder past) past n
@@ -178,10 +178,10 @@ module _ (w : Scenario) (t n place : ℕ) (holder : StationData) (stations : Lis
   busy-for m small = busy m (omega (arith, small))
 
   abbrev ticks : QuietTicks w (trace_at w t) n
-  ticks = still-ticks w t n quiet still hands busy-for
+  ticks = still-ticks w t n stays quiet still hands busy-for
 
   later-trace : trace_at w (t + n) ≡ record { shown = quiet_pairs n ++ shown_at w t; driven = ticks.driven ++ driven_at w t }
-  later-trace = still-whole w t n quiet still hands busy-for
+  later-trace = still-whole w t n stays quiet still hands busy-for
 
   course-then : course_of w holder later ≡ course_of w holder past
   course-then = holder-still.same n all
@@ -233,8 +233,8 @@ module _ (w : Scenario) (t n place : ℕ) (holder : StationData) (stations : Lis
   doubt-lasts =
       let shows : shown_at w (t + n) ≡ quiet_pairs n ++ shown_at w t = ap (λ (tr : Trace). tr.shown) later-trace in (
         shows,
-        subst Doubts (sym later-trace) (then-rested (still-quiet w t n quiet still hands busy-for), refl),
+        subst Doubts (sym later-trace) (then-rested (still-quiet w t n stays quiet still hands busy-for), refl),
         ap (course_of w holder) shows ∙ course-then,
         ap quiet_from shows ∙ from-quiet n past,
-        still-passes w t n quiet still hands busy-for,
+        still-passes w t n stays quiet still hands busy-for,
       )

@@ -20,7 +20,6 @@ use Rattle.bus_model.specs.Terminal.{took_now}
 use Rattle.bus_model.specs.World.{Trace, is_present}
 use Rattle.bus_model.specs.WorldLog.{present_stations, ended_by}
 use Rattle.bus_law_messages.proofs.Pausing.{from-quiet}
-use Rattle.bus_law_messages.proofs.Sending.{shown-long}
 use Rattle.bus_law_moments.specs.Doubts.{IsInDoubt}
 use Rattle.bus_law_offers.specs.Still.{IsStill, AllStill}
 use Rattle.bus_law_offers.proofs.DoubtEnd.{doubt_end, doubt-silent, doubt-still, doubt-closes, doubt-holds, doubt-takes, doubt-keeps, doubt-busy}
@@ -30,7 +29,7 @@ use Rattle.bus_law_phases.specs.Commands.{attempt_recorded}
 use Rattle.bus_law_phases.specs.Moments.{DutyLasts, IsHolder, IsAfter, Underway, LastsTo}
 use Rattle.bus_law_phases.specs.Pairing.{Beside}
 use Rattle.bus_law_phases.specs.Passages.{HoldsAlone, InOneHand, Happening, Passage, nothing_happens}
-use Rattle.bus_law_phases.specs.Scenarios.{Scenario, trace_at, shown_at, driven_at, course_of, hearing_of, IsPresentAt, NoneTakesFrom}
+use Rattle.bus_law_phases.specs.Scenarios.{Scenario, trace_at, shown_at, driven_at, course_of, hearing_of, IsPresentAt, NoneTakesFrom, StaysFrom}
 use Rattle.bus_law_phases.specs.Silences.{IsQuiet, GoesOnTo, SomeoneIsBusy}
 use Rattle.bus_law_phases.proofs.Pairs.{each-of, beside-with}
 use Rattle.bus_law_phases.proofs.Passing.{joined}
@@ -40,6 +39,7 @@ use Rattle.bus_law_phases.proofs.SilencedTick.{AllSilent, NoneTakesBlocks, tick-
 use Rattle.bus_law_phases.proofs.Spares.{one-gives}
 use Rattle.bus_law_stations.specs.Turns.{Serves}
 use Rattle.bus_law_stations.proofs.StillController.{pairs-long}
+use Rattle.bus_law_phases.proofs.Staying.{long-at, stays-later}
 
 -- nothing comes of a duty that isn't there
 free-lasts : (u e : ℕ) (station : StationData) (duty : Duty) → duty ≡ free → DutyLasts u e station duty
@@ -71,7 +71,7 @@ doubt_happens holder begun tick = record {
 
 module _ (w : Scenario) (t n place : ℕ) (holder : StationData) (c : Channel) (e : ℕ) (part : Part) (afters : List After) (begun : Begun) (x : ℕ)
     (moment : Underway w (trace_at w t) place holder c e part afters) (frees : All (λ (a : After). a.duty ≡ free) afters)
-    (doubt : IsInDoubt w (shown_at w t) holder begun x) (at : suc (t + n) ≡ x + doubting) (none : NoneTakesFrom w t) where
+    (doubt : IsInDoubt w (shown_at w t) holder begun x) (at : suc (t + n) ≡ x + doubting) (none : StaysFrom w t) where
   abbrev past : List Pair
   past = shown_at w t
 
@@ -82,13 +82,16 @@ module _ (w : Scenario) (t n place : ℕ) (holder : StationData) (c : Channel) (
   last = quiet_pairs (suc n) ++ shown_at w t
 
   long : length (shown_at w t) ≡ t
-  long = shown-long w.lag w.plan w.loads w.outside w.absent t
+  long = long-at w t none
 
   at-here : suc (length (shown_at w t) + n) ≡ x + doubting
   at-here = omega (arith, long, at)
 
   stays : NoneTakesFrom w (length (shown_at w t))
-  stays = subst (NoneTakesFrom w) (sym long) none
+  stays = subst (NoneTakesFrom w) (sym long) none.takes
+
+  none-mid : StaysFrom w (t + n)
+  none-mid = stays-later w t (t + n) (omega arith) none
 
   lasts : All (LastsTo (length (shown_at w t) + suc n) e) afters
   lasts = all-free-last (length (shown_at w t) + suc n) e afters frees
@@ -135,16 +138,16 @@ module _ (w : Scenario) (t n place : ℕ) (holder : StationData) (c : Channel) (
   -- ---- the quiet ticks
 
   abbrev ticks : QuietTicks w (trace_at w t) n
-  ticks = still-ticks w t n quiet still hands busy-for
+  ticks = still-ticks w t n none quiet still hands busy-for
 
   later-trace : trace_at w (t + n) ≡ record { shown = quiet_pairs n ++ shown_at w t; driven = ticks.driven ++ driven_at w t }
-  later-trace = still-whole w t n quiet still hands busy-for
+  later-trace = still-whole w t n none quiet still hands busy-for
 
   shows : shown_at w (t + n) ≡ quiet_pairs n ++ shown_at w t
   shows = ap (λ (tr : Trace). tr.shown) later-trace
 
   quiet-mid : IsQuiet w (trace_at w (t + n))
-  quiet-mid = subst (IsQuiet w) (sym later-trace) (still-quiet w t n quiet still hands busy-for)
+  quiet-mid = subst (IsQuiet w) (sym later-trace) (still-quiet w t n none quiet still hands busy-for)
 
   -- ---- the last of them
 
@@ -212,7 +215,7 @@ module _ (w : Scenario) (t n place : ℕ) (holder : StationData) (c : Channel) (
     commands = 0;
   }
   passes-last =
-      tick-passes w (t + n) quiet-mid silent takes attempts
+      tick-passes w (t + n) none-mid quiet-mid silent takes attempts
       (on-mid (λ p. flat_map (ended_by w.lag w.plan w.loads w.outside w.absent (quiet_pair ∷ p) (length p))
       (present_stations w.lag w.plan w.loads w.outside w.absent) ≡ attempts) ended-mid)
       (on-mid (λ p. HoldsAlone w (quiet_pair ∷ p)) hands-last)
@@ -244,10 +247,10 @@ module _ (w : Scenario) (t n place : ℕ) (holder : StationData) (c : Channel) (
 
   then-underway : Underway w (trace_at w (suc (t + n))) place holder c e part afters
   then-underway =
-      let over = tick-quiet w (t + n) quiet-mid silent in
-      subst (λ tr. Underway w tr place holder c e part afters) (sym (tick-trace w (t + n) quiet-mid silent)) record {
+      let over = tick-quiet w (t + n) none-mid quiet-mid silent in
+      subst (λ tr. Underway w tr place holder c e part afters) (sym (tick-trace w (t + n) none-mid quiet-mid silent)) record {
         rests = over.rests;
-        fresh = tick-fresh w (t + n) quiet-mid silent;
+        fresh = tick-fresh w (t + n) none-mid quiet-mid silent;
         spent = over.spent;
         at = moment.at;
         holds = on-mid (λ p. (course_of w holder (quiet_pair ∷ p)).holds ≡ true) (doubt-holds w past holder begun x n doubt at-here);
@@ -270,11 +273,11 @@ module _ (w : Scenario) (t n place : ℕ) (holder : StationData) (c : Channel) (
       × (quiet_from (shown_at w (suc (t + n))) ≡ quiet_from (shown_at w t)) × Passage w t (suc (t + n)) (doubt_happens holder begun (t + n))
   doubt-ends = (
     then-underway,
-    ap (course_of w holder) (tick-shown w (t + n) quiet-mid silent)
+    ap (course_of w holder) (tick-shown w (t + n) none-mid quiet-mid silent)
         ∙ ap (λ p. course_of w holder (quiet_pair ∷ p)) shows
         ∙ closes-mid ∙ ap (close (course_of w holder (shown_at w t)) begun doubt_end) mid-now,
-    tick-quiet-from w (t + n) quiet-mid silent ∙ ap quiet_from shows ∙ from-quiet n past,
+    tick-quiet-from w (t + n) none-mid quiet-mid silent ∙ ap quiet_from shows ∙ from-quiet n past,
     joined w t (t + n) (suc (t + n)) nothing_happens (doubt_happens holder begun (t + n))
-        (still-passes w t n quiet still hands busy-for)
+        (still-passes w t n none quiet still hands busy-for)
         (subst (λ i. Passage w (t + n) (suc (t + n)) (doubt_happens holder begun i)) mid-now passes-last),
   )

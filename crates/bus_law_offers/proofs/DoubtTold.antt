@@ -35,7 +35,6 @@ use Rattle.bus_law_line.specs.Senders.{Sender, attempt_to_come}
 use Rattle.bus_law_messages.specs.Commands.{command_sender}
 use Rattle.bus_law_messages.specs.Ends.{HeardCommand, SentCommand}
 use Rattle.bus_law_messages.proofs.Closing.{sent-command}
-use Rattle.bus_law_messages.proofs.Sending.{shown-long}
 use Rattle.bus_law_moments.specs.Doubts.{attempt_yielded, present_in_doubt, yielded_station, RestedInDoubt}
 use Rattle.bus_law_offers.specs.Yielding.{course_yielded}
 use Rattle.bus_law_offers.proofs.DoubtCommanding.{soon, controls, shows-of, own-drives, others-silent, all-still, all-takes, held, someone-busy, offerer-stays, first-ends}
@@ -50,11 +49,10 @@ use Rattle.bus_law_stations.specs.Turns.{KeepsControl, Serves}
 use Rattle.bus_law_stations.proofs.Resting.{cases-option}
 use Rattle.bus_law_table.specs.Stations.{loaded_at}
 use Rattle.bus_law_table.proofs.OneStation.{serving_with, serving-is, CommandTold, command-told}
-use Rattle.bus_law_table.proofs.Pairing.{beside-filter_map, filter_map-map}
 use Rattle.bus_law_table.proofs.Pairing as lists
 use Rattle.bus_law_phases.specs.Moments.{IsHolder, IsAfter, Underway}
 use Rattle.bus_law_phases.specs.PartRuns.{burst_shown, RunsAlone, IsFirstOf, PartRuns}
-use Rattle.bus_law_phases.specs.Scenarios.{Scenario, trace_at, shown_at, driven_at, course_of, present_of, IsPresentAt, NoneTakesFrom}
+use Rattle.bus_law_phases.specs.Scenarios.{Scenario, trace_at, shown_at, driven_at, course_of, present_of, IsPresentAt, NoneTakesFrom, StaysFrom}
 use Rattle.bus_law_phases.proofs.AnswerLeft.{holder-left}
 use Rattle.bus_law_phases.proofs.CommandFits.{command-hits-fit, command-shows}
 use Rattle.bus_law_phases.proofs.CommandServer.{shown_burst, heard-command, server-after}
@@ -62,19 +60,20 @@ use Rattle.bus_law_phases.proofs.Kept.{command-kept}
 use Rattle.bus_law_phases.proofs.PartEnding.{part-ended, all-quiet, fresh-after, quiet-after}
 use Rattle.bus_law_phases.proofs.PartTicks.{one-begins}
 use Rattle.bus_law_phases.proofs.Spares.{all-at, beside-into}
+use Rattle.bus_law_phases.proofs.Staying.{long-at}
 
 module _ (w : Scenario) (t place : ℕ) (holder : StationData) (stations : List Present) (offer : Begun) (doubt_from : ℕ) (entry : Entry) (lag : w.lag ≡ 3)
     (accepted : IsAccepted w.plan) (of : IsEntryOf w.plan holder.terminal.address entry)
     (rested : RestedInDoubt w (trace_at w t) place holder stations offer doubt_from)
-    (begins : BeginsMessage (course_of w holder (shown_at w t)) (shown_at w t) entry) (stays : NoneTakesFrom w t) (separate : AreApart stations) where
+    (begins : BeginsMessage (course_of w holder (shown_at w t)) (shown_at w t) entry) (stays : StaysFrom w t) (separate : AreApart stations) where
   abbrev pub past : List Pair
   past = shown_at w t
 
   pub long : length (shown_at w t) ≡ t
-  long = shown-long w.lag w.plan w.loads w.outside w.absent t
+  long = long-at w t stays
 
   stays-here : NoneTakesFrom w (length (shown_at w t))
-  stays-here = subst (NoneTakesFrom w) (sym long) stays
+  stays-here = subst (NoneTakesFrom w) (sym long) stays.takes
 
   abbrev pub begun : Begun
   begun = message_begun (course_of w holder past) entry (length past)
@@ -120,7 +119,7 @@ module _ (w : Scenario) (t place : ℕ) (holder : StationData) (stations : List 
 
   pub sending : SentTicks w t s hits 1 yielded
   sending =
-      sent-all w t s hits lag (rested.fresh c place) rested.spent rested.rests refl fits some own others yielded
+      sent-all w t s hits lag stays (rested.fresh c place) rested.spent rested.rests refl fits some own others yielded
       (λ y alone. first-ends w now place holder stations offer doubt_from entry lag rested begins stays-here y alone.alone)
       (λ y z ticks alone. all-still w now place holder stations offer doubt_from entry lag rested begins stays-here y z ticks alone.alone)
       (λ y ticks alone. all-takes w now place holder stations offer doubt_from entry lag rested begins stays-here y ticks alone.alone)

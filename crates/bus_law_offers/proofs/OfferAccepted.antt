@@ -16,7 +16,6 @@ use Rattle.bus_model.specs.Starts.{Entry, Opening, starts, taking, planned_at, s
 use Rattle.bus_model.specs.Strikes.{ShownBurst, burst_end, ShownAnswer}
 use Rattle.bus_model.specs.World.{is_present}
 use Rattle.bus_law_messages.specs.Settled.{IsServing, NoneStarts}
-use Rattle.bus_law_messages.proofs.Sending.{shown-long}
 use Rattle.bus_law_moments.specs.Begun.{MessageBegan}
 use Rattle.bus_law_moments.specs.Told.{message_at, stations_after, HasTaken, WaitsFor}
 use Rattle.bus_law_offers.specs.Passing.{HoldsToEnd, IsLeft, AcceptOver}
@@ -28,7 +27,7 @@ use Rattle.bus_law_phases.specs.Answers.{burst_read, attempts_ended}
 use Rattle.bus_law_phases.specs.Closings.{HasItemsOf}
 use Rattle.bus_law_phases.specs.Moments.{HasDuty}
 use Rattle.bus_law_phases.specs.Passages.{Passage}
-use Rattle.bus_law_phases.specs.Scenarios.{Scenario, shown_at, course_of, IsPresentAt, NoneTakesFrom}
+use Rattle.bus_law_phases.specs.Scenarios.{Scenario, shown_at, course_of, IsPresentAt, StaysFrom}
 use Rattle.bus_law_phases.proofs.AnswerBegun.{addresses-apart}
 use Rattle.bus_law_phases.proofs.Pairs.{each-of, beside-at}
 use Rattle.bus_law_phases.proofs.Passing.{joined}
@@ -36,8 +35,8 @@ use Rattle.bus_law_phases.proofs.SilencedItems.{items-answer}
 use Rattle.bus_law_stations.specs.Turns.{Serves}
 use Rattle.bus_law_told.specs.Tables.{this_message}
 use Rattle.bus_law_told.specs.Told.{answer_shown}
-use Rattle.bus_law_told.proofs.Coming.{none-later}
 use Rattle.bus_law_told.proofs.TablesQuiet.{quiet-more}
+use Rattle.bus_law_phases.proofs.Staying.{stays-later, long-later}
 
 module _ (w : Scenario) (t place : ℕ) (holder : StationData) (stations : List Present) (entry : Entry) (ended : List Attempt) (found : List ShownBurst)
     (began : MessageBegan w t holder entry place stations ended found) (first : ShownAnswer)
@@ -123,8 +122,8 @@ module _ (w : Scenario) (t place : ℕ) (holder : StationData) (stations : List 
       let same = so.start in let up = later-on in omega (arith, same, up)
 
   -- nobody takes control by itself
-  pub none-from : NoneTakesFrom w d
-  none-from = none-later w t d later-on began.none
+  pub none-from : StaysFrom w d
+  none-from = stays-later w t d later-on began.none
 
   -- ---- it is accepted
 
@@ -224,7 +223,7 @@ module _ (w : Scenario) (t place : ℕ) (holder : StationData) (stations : List 
           none-yet : NoneStarts (course_of w by.answering (shown_at w over_at)) (shown_at w over_at) 0
           none-yet next rest left =
               let c : Course = course_of w by.answering (shown_at w over_at) in
-              let long : length (shown_at w over_at) ≡ over_at = shown-long w.lag w.plan w.loads w.outside w.absent over_at in
+              let long : length (shown_at w over_at) ≡ over_at = long-later w d over_at done.passed.later none-from in
               let lag = began.lag in
               subst (λ (o : Opening). length (shown_at w over_at) + 0 ≤ start_of o c.retry c.origin next (quiet_from (shown_at w over_at))) (sym taker-opens)
               (omega (arith, long, lag))

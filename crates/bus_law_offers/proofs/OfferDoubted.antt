@@ -36,9 +36,10 @@ use Rattle.bus_law_phases.proofs.Passing.{joined}
 use Rattle.bus_law_stations.specs.Messages.{with_running}
 use Rattle.bus_law_told.specs.Tables.{MessageIs}
 use Rattle.bus_law_told.specs.Told.{answer_shown}
-use Rattle.bus_law_told.proofs.Coming.{Came, none-later}
+use Rattle.bus_law_told.proofs.Coming.{Came}
 use Rattle.bus_law_told.proofs.Ending.{EndsPlainly, told-then}
 use Rattle.bus_law_told.proofs.TablesFree.{free-one}
+use Rattle.bus_law_phases.proofs.Staying.{stays-later}
 
 module _ (w : Scenario) (t place : ℕ) (holder : StationData) (stations : List Present) (entry : Entry) (ended : List Attempt) (found : List ShownBurst)
     (began : MessageBegan w t holder entry place stations ended found) (first : ShownAnswer)
@@ -145,7 +146,7 @@ module _ (w : Scenario) (t place : ℕ) (holder : StationData) (stations : List 
       × (quiet_from (shown_at w (suc last)) ≡ quiet_from (shown_at w over)) × Passage w over (suc last) (doubt_happens holder begun last)
   out =
       doubt-ends w over 75 place holder cmd.channel x Second afters begun x answered.moment
-      (all-free w t place holder stations entry ended found began first shows offers) doubts-so at-last (none-later w t over over-later began.none)
+      (all-free w t place holder stations entry ended found began first shows offers) doubts-so at-last (stays-later w t over over-later began.none)
 
   abbrev answers : List ShownBurst
   answers = first.burst ∷ []
@@ -217,6 +218,6 @@ module _ (w : Scenario) (t place : ℕ) (holder : StationData) (stations : List 
 
   pub doubt-told : MessageTold w t holder stations entry place ended found
   doubt-told =
-      told-then w t place holder stations entry began.accepted ended found (suc last) cmd.channel x Second afters taken answers doubt_end last came
+      told-then w t place holder stations entry began.accepted began.none ended found (suc last) cmd.channel x Second afters taken answers doubt_end last came
       (all-free w t place holder stations entry ended found began first shows offers) closes-so began.held is
       (quiet-last w t place holder stations entry ended found began first shows offers) (omega (arith, over-later)) plainly (inl (omega arith)) within

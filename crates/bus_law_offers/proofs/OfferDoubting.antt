@@ -19,10 +19,9 @@ use Rattle.bus_model.specs.Message.{Present}
 use Rattle.bus_model.specs.Starts.{Entry}
 use Rattle.bus_model.specs.Strikes.{ShownBurst, burst_end, ShownAnswer}
 use Rattle.bus_law_control.specs.Offers.{IsDoubting}
-use Rattle.bus_law_messages.proofs.Sending.{shown-long}
 use Rattle.bus_law_moments.specs.Begun.{MessageBegan}
 use Rattle.bus_law_moments.specs.Doubts.{IsInDoubt}
-use Rattle.bus_law_offers.proofs.OfferAccepted.{opens, command, from_start}
+use Rattle.bus_law_offers.proofs.OfferAccepted.{opens, command, from_start, later-on, over-later}
 use Rattle.bus_law_offers.proofs.OfferDue.{shown-so, course-first, waits-first, awaits-first, begins-first}
 use Rattle.bus_law_offers.proofs.OfferHolding.{doubts-whole}
 use Rattle.bus_law_phases.specs.Answers.{burst_read, ShowsWhole}
@@ -30,6 +29,7 @@ use Rattle.bus_law_phases.specs.Scenarios.{Scenario, shown_at, course_of}
 use Rattle.bus_law_stations.specs.Messages.{with_running}
 use Rattle.bus_law_told.specs.Told.{answer_shown}
 use Rattle.bus_law_told.proofs.FirstShown.{same-rest}
+use Rattle.bus_law_phases.proofs.Staying.{long-later}
 
 module _ (w : Scenario) (t place : ℕ) (holder : StationData) (stations : List Present) (entry : Entry) (ended : List Attempt) (found : List ShownBurst)
     (began : MessageBegan w t holder entry place stations ended found) (first : ShownAnswer)
@@ -58,7 +58,7 @@ module _ (w : Scenario) (t place : ℕ) (holder : StationData) (stations : List 
   due-early =
       let so = shown-so w t place holder stations entry ended found began first shows in
       let same = so.start in
-      let long : length (shown_at w due) ≡ due = shown-long w.lag w.plan w.loads w.outside w.absent due in omega (arith, same, long)
+      let long : length (shown_at w due) ≡ due = long-later w t due (later-on w t place holder stations entry ended found began first shows offers) began.none in omega (arith, same, long)
 
   pub doubts-longer : suc w.lag < doubting
   doubts-longer = let lag = began.lag in omega (arith, lag)
@@ -80,7 +80,7 @@ module _ (w : Scenario) (t place : ℕ) (holder : StationData) (stations : List 
         (opens w t place holder stations entry ended found began first shows offers) (burst_end first.burst)
     in-doubt =
         let lag = began.lag in
-        let long : length (shown_at w over) ≡ over = shown-long w.lag w.plan w.loads w.outside w.absent over in record {
+        let long : length (shown_at w over) ≡ over = long-later w t over (let up = over-later w t place holder stations entry ended found began first shows offers in omega (arith, up)) began.none in record {
           holds = ap (λ (c : Course). c.holds) left-running ∙ began.held;
           runs = ap (λ (c : Course). c.runs) left-running;
           doubts = subst (λ p. IsDoubting w.lag begun (on_channel begun.state.channel p) (burst_end first.burst)) (sym shown)

@@ -20,7 +20,6 @@ use Rattle.bus_formats.specs.declared.fault.Hit.{Hit}
 use Rattle.bus_law_control.proofs.OwnChannel.{first-own}
 use Rattle.bus_law_duties.proofs.OneOwes.{none-owes}
 use Rattle.bus_law_line.specs.Senders.{attempt_to_come}
-use Rattle.bus_law_messages.proofs.Sending.{shown-long}
 use Rattle.bus_law_moments.specs.Begun.{MessageBegan}
 use Rattle.bus_law_parts.specs.Parts.{HitsFit}
 use Rattle.bus_law_phases.specs.Answers.{BeginsAt, MayAbandon}
@@ -40,6 +39,7 @@ use Rattle.bus_law_told.proofs.TablesDue.{loads-fit}
 use Rattle.bus_law_told.proofs.TablesFree.{free-unanswered}
 use Rattle.bus_law_told.proofs.TablesShown.{first-shown-to}
 use Rattle.bus_law_told.proofs.Unanswered.{quiet-many, waits-on, waiter-busy}
+use Rattle.bus_law_phases.proofs.Staying.{long-later}
 
 -- the answer to nobody isn't shown
 unanswered-shown : (hits : List Hit) (o : Option Answer) (first : ShownAnswer) → o ≡ None → shown_answer hits o ≡ Some first → ⊥
@@ -139,7 +139,7 @@ module _ (w : Scenario) (t place : ℕ) (holder : StationData) (stations : List 
 
   idle : NothingStarts w.lag (course_of w holder (shown_at w since)) (shown_at w since) (due - since)
   idle =
-      waits-on w t place holder start began.none since (due - since) (burst_end cmd) opened (ap (λ (d : Course). d.runs) since-runs) (inl since-waits)
+      waits-on w t place holder start began.none since (due - since) (burst_end cmd) opened came-since.passage.later (ap (λ (d : Course). d.runs) since-runs) (inl since-waits)
       (omega (arith, late, in-time))
 
   goes : GoesOnTo w (shown_at w since) due
@@ -171,7 +171,7 @@ module _ (w : Scenario) (t place : ℕ) (holder : StationData) (stations : List 
       (ap (λ (d : Course). d.runs) course-first))
 
   due-long : length (shown_at w due) ≡ due
-  due-long = shown-long w.lag w.plan w.loads w.outside w.absent due
+  due-long = long-later w t due came-first.passage.later began.none
 
   pub awaits-first : MayAbandon w (shown_at w due) holder opened (burst_end cmd)
   awaits-first = record {

@@ -19,18 +19,17 @@ use Rattle.bus_model.specs.Strikes.{hits_on}
 use Rattle.bus_model.specs.Terminal.{took_now}
 use Rattle.bus_model.specs.Transmissions.{station_drive}
 use Rattle.bus_model.specs.Wire.{shown, drivers}
-use Rattle.bus_model.specs.World.{Trace, drives_after, drivers_in, run_is_over}
+use Rattle.bus_model.specs.World.{Trace, drives_after}
 use Rattle.bus_model.specs.WorldLog.{present_stations, attempt_at, ended_by, attempts}
 use Rattle.bus_law_control.proofs.Holding.{ended-before}
 use Rattle.bus_law_line.specs.Senders.{Sender, IsSpent, attempt_to_come}
 use Rattle.bus_law_line.proofs.Sent.{left-undriven}
 use Rattle.bus_law_messages.proofs.Listening.{this-or-other}
-use Rattle.bus_law_messages.proofs.LaterTicks.{trace-later}
 use Rattle.bus_law_parts.specs.Parts.{part_ticks, HitsFit, IsFresh}
 use Rattle.bus_law_parts.proofs.SentParts.{part-drivers}
 use Rattle.bus_law_phases.specs.PartRuns.{IsFirstOf, PartRuns}
 use Rattle.bus_law_phases.specs.Passages.{InOneHand, IsOrderly, Passage}
-use Rattle.bus_law_phases.specs.Scenarios.{Scenario, trace_at, shown_at, driven_at, blocks_in, attempts_in, commands_in, course_of, hearing_of, standing_of, IsPresentAt}
+use Rattle.bus_law_phases.specs.Scenarios.{Scenario, trace_at, shown_at, driven_at, blocks_in, attempts_in, commands_in, course_of, hearing_of, standing_of, IsPresentAt, drivers_at, is_over_at, StaysFrom}
 use Rattle.bus_law_phases.specs.Silences.{SomeoneIsBusy}
 use Rattle.bus_law_phases.proofs.Legs.{first-less, busy-goes-on}
 use Rattle.bus_law_phases.proofs.PartRunning.{part-runs, one-more, first-of}
@@ -38,6 +37,7 @@ use Rattle.bus_law_phases.proofs.Resting.{each-present, no-attempt, none-of-each
 use Rattle.bus_law_table.specs.Happened.{block_at, took_in, blocks_in as blocks_now, blocks_found}
 use Rattle.bus_law_table.proofs.Pairing.{none-each}
 use Rattle.bus_law_table.proofs.Ticks.{leg-bursts}
+use Rattle.bus_law_phases.proofs.Staying.{ticks-later}
 
 -- from tick t on a station sends a part, which these hits strike, to the tick in which its end is known; so many commands begin with it, and these
 -- attempts end with its first tick
@@ -56,10 +56,10 @@ pub record SentTicks (w : Scenario) (t : ℕ) (s : Sender) (hits : List Hit) (be
   -- nothing else came to pass before the newest, which is in order
   pub passed : Passage w t (t + (part_ticks hits s.words + w.lag)) record { blocks = []; bursts = []; attempts = ended; commands = begun }
   pub counted : commands_in w (driven_at w (t + suc (part_ticks hits s.words + w.lag))) ≡ commands_in w (driven_at w t) + begun
-  pub drives : (d : Channel) → drivers_in w.lag w.plan w.loads w.outside w.absent (t + (part_ticks hits s.words + w.lag)) d ≤ 1
-  pub goes_on : run_is_over w.lag w.plan w.loads w.outside w.absent (t + (part_ticks hits s.words + w.lag)) ≡ false
+  pub drives : (d : Channel) → drivers_at w (t + (part_ticks hits s.words + w.lag)) d ≤ 1
+  pub goes_on : is_over_at w (t + (part_ticks hits s.words + w.lag)) ≡ false
 
-module _ (w : Scenario) (t : ℕ) (s : Sender) (hits : List Hit) (lag : w.lag ≡ 3)
+module _ (w : Scenario) (t : ℕ) (s : Sender) (hits : List Hit) (lag : w.lag ≡ 3) (stays : StaysFrom w t)
     (fresh : IsFresh w.plan.faults s.channel (driven_at w t) s.station)
     (spent : (d : Channel) (station : ℕ) → IsSpent w.plan.faults d (driven_at w t) station)
     (rests : (d : Channel) → runs w.lag (on_channel d (shown_at w t)) ≡ false)
@@ -112,7 +112,7 @@ module _ (w : Scenario) (t : ℕ) (s : Sender) (hits : List Hit) (lag : w.lag �
 
   trace-is : (n : ℕ) (ticks : List Pair) (sent : List (List Drive)) → Runs n ticks sent →
       trace_at w (t + n) ≡ record { shown = ticks ++ past; driven = sent ++ driven_at w t }
-  trace-is n ticks sent so = sym (trace-later w.lag w.plan w.loads w.outside w.absent t n) ∙ so.world
+  trace-is n ticks sent so = sym (ticks-later w t n stays) ∙ so.world
 
   shown-is : (n : ℕ) (ticks : List Pair) (sent : List (List Drive)) → Runs n ticks sent → shown_at w (t + n) ≡ ticks ++ past
   shown-is n ticks sent so = ap (λ (tr : Trace). tr.shown) (trace-is n ticks sent so)
@@ -168,7 +168,7 @@ module _ (w : Scenario) (t : ℕ) (s : Sender) (hits : List Hit) (lag : w.lag �
   next-tick n = omega arith
 
   -- at most one station drives a channel in the tick after the first n of them
-  drives-one : (n : ℕ) → n < limit → (d : Channel) → drivers_in w.lag w.plan w.loads w.outside w.absent (t + n) d ≤ 1
+  drives-one : (n : ℕ) → n < limit → (d : Channel) → drivers_at w (t + n) d ≤ 1
   drives-one n early d =
       let so = sent-ticks n (omega (arith, early)) in
       let now = drives_after w.lag w.plan w.loads w.outside w.absent (so.0 ++ past) in
@@ -182,7 +182,7 @@ module _ (w : Scenario) (t : ℕ) (s : Sender) (hits : List Hit) (lag : w.lag �
             (let none = left-undriven w.plan.faults (other_of c) (driven_at w t) so.1 now more.beside in omega (arith, none))
       ]))
 
-  goes-on : (n : ℕ) → n < limit → run_is_over w.lag w.plan w.loads w.outside w.absent (t + n) ≡ false
+  goes-on : (n : ℕ) → n < limit → is_over_at w (t + n) ≡ false
   goes-on n early =
       let so = sent-ticks n (omega (arith, early)) in
       busy-goes-on w (t + n) (so.0 ++ past) (shown-is n so.0 so.1 so.2) (busy so.0 (first-for n so.0 so.1 early so.2))

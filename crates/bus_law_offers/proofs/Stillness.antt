@@ -14,17 +14,16 @@ use Rattle.bus_model.specs.Course.{Course}
 use Rattle.bus_model.specs.Starts.{starts}
 use Rattle.bus_model.specs.Transmissions.{station_drive, is_command}
 use Rattle.bus_model.specs.Wire.{drivers}
-use Rattle.bus_model.specs.World.{Trace, drives_after, drivers_in}
+use Rattle.bus_model.specs.World.{Trace, drives_after}
 use Rattle.bus_model.specs.WorldLog.{present_stations, attempt_at, ended_by, attempts}
 use Rattle.bus_law_control.proofs.Holding.{ended-before}
 use Rattle.bus_law_line.proofs.Sent.{left-spent}
-use Rattle.bus_law_messages.proofs.LaterTicks.{trace-later}
 use Rattle.bus_law_messages.proofs.Pausing.{on-quiet}
 use Rattle.bus_law_messages.proofs.Sending.{place-silent}
 use Rattle.bus_law_offers.specs.Still.{AllStill}
 use Rattle.bus_law_offers.proofs.QuietDriven.{undriven-for}
 use Rattle.bus_law_phases.specs.Passages.{InOneHand, IsOrderly, Passage, nothing_happens}
-use Rattle.bus_law_phases.specs.Scenarios.{Scenario, trace_at, shown_at, driven_at, blocks_in, attempts_in, commands_in, course_of, standing_of, IsPresentAt}
+use Rattle.bus_law_phases.specs.Scenarios.{Scenario, trace_at, shown_at, driven_at, blocks_in, attempts_in, commands_in, course_of, standing_of, IsPresentAt, drivers_at, StaysFrom}
 use Rattle.bus_law_phases.specs.Silences.{IsQuiet, SomeoneIsBusy}
 use Rattle.bus_law_phases.proofs.Legs.{busy-goes-on}
 use Rattle.bus_law_phases.proofs.Resting.{each-present, no-attempt, none-of-each}
@@ -34,6 +33,7 @@ use Rattle.bus_law_stations.proofs.StillController.{pairs-long}
 use Rattle.bus_law_table.specs.Happened.{block_at, took_in, blocks_in as blocks_now, blocks_found}
 use Rattle.bus_law_table.proofs.Pairing.{none-each}
 use Rattle.bus_law_table.proofs.Quiet.{quiet-bursts}
+use Rattle.bus_law_phases.proofs.Staying.{ticks-later}
 
 -- ---- no block is taken, and no attempt ends
 
@@ -79,7 +79,7 @@ module _ (w : Scenario) (past : List Pair) (n : ℕ) (still : AllStill w past n)
 
 -- ---- what comes to pass: nothing
 
-module _ (w : Scenario) (t n : ℕ) (quiet : IsQuiet w (trace_at w t)) (still : AllStill w (shown_at w t) n)
+module _ (w : Scenario) (t n : ℕ) (stays : StaysFrom w t) (quiet : IsQuiet w (trace_at w t)) (still : AllStill w (shown_at w t) n)
     (hands : (m : ℕ) → m < n → InOneHand w (quiet_pairs (suc m) ++ shown_at w t))
     (busy : (m : ℕ) → m < n → SomeoneIsBusy w (quiet_pairs m ++ shown_at w t)) where
   abbrev past : List Pair
@@ -96,7 +96,7 @@ module _ (w : Scenario) (t n : ℕ) (quiet : IsQuiet w (trace_at w t)) (still : 
 
   -- the trace after m of them
   still-trace : (m : ℕ) (few : m ≤ n) → trace_at w (t + m) ≡ record { shown = quiet_pairs m ++ past; driven = (ticks m few).driven ++ driven_at w t }
-  still-trace m few = sym (trace-later w.lag w.plan w.loads w.outside w.absent t m) ∙ (ticks m few).world
+  still-trace m few = sym (ticks-later w t m stays) ∙ (ticks m few).world
 
   all : n ≤ n
   all = omega arith
@@ -118,7 +118,7 @@ module _ (w : Scenario) (t n : ℕ) (quiet : IsQuiet w (trace_at w t)) (still : 
   next-tick m = omega arith
 
   -- nobody drives
-  drives-none : (m : ℕ) (few : m < n) (c : Channel) → drivers_in w.lag w.plan w.loads w.outside w.absent (t + m) c ≤ 1
+  drives-none : (m : ℕ) (few : m < n) (c : Channel) → drivers_at w (t + m) c ≤ 1
   drives-none m few c =
       let early : suc m ≤ n = omega (arith, few) in
       let q = ticks (suc m) early in

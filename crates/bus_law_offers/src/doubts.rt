@@ -19,13 +19,13 @@ ghost use Rattle.bus_law_plans.specs.Memories.{AreBlocks};
 ghost use Rattle.bus_law_stations.specs.Messages.{BeginsMessage};
 ghost use Rattle.bus_law_phases.specs.Commands.{command_at};
 ghost use Rattle.bus_law_phases.specs.Passages.{Passage, nothing_happens};
-ghost use Rattle.bus_law_phases.specs.Scenarios.{Scenario, trace_at, shown_at, course_of, NoneTakesFrom};
+ghost use Rattle.bus_law_phases.specs.Scenarios.{Scenario, trace_at, shown_at, course_of, StaysFrom};
 
 /// A moment in which a station doubts lasts until the station that took control starts: both channels are quiet, from the same tick on, every station
 /// is what it was, and nothing comes to pass. At every lag, for any loads, with any stations absent.
 pub fn a_doubt_lasts_in_silence()
     ensures { (w : Scenario) (t n place : ℕ) (holder : StationData) (stations : List Present) (offer : Begun) (x : ℕ) →
-        (rested : RestedInDoubt w (trace_at w t) place holder stations offer x) → t + n ≤ x + taking_over → NoneTakesFrom w t →
+        (rested : RestedInDoubt w (trace_at w t) place holder stations offer x) → t + n ≤ x + taking_over → StaysFrom w t →
         (shown_at w (t + n) ≡ quiet_pairs n ++ shown_at w t)
         × ((later : RestedInDoubt w (trace_at w (t + n)) place holder stations offer x) × (later.offerer ≡ rested.offerer))
         × (course_of w holder (shown_at w (t + n)) ≡ course_of w holder (shown_at w t)) × (quiet_from (shown_at w (t + n)) ≡ quiet_from (shown_at w t))
@@ -39,6 +39,6 @@ pub fn a_message_begins_in_doubt()
     ensures { (w : Scenario) (t place : ℕ) (holder : StationData) (stations : List Present) (offer : Begun) (x : ℕ) (entry : Entry) → w.lag ≡ 3 →
         IsAccepted w.plan → AreBlocks w.loads → IsEntryOf w.plan holder.terminal.address entry →
         (rested : RestedInDoubt w (trace_at w t) place holder stations offer x) →
-        BeginsMessage (course_of w holder (shown_at w t)) (shown_at w t) entry → NoneTakesFrom w t → AreApart stations → Each IsRanged stations →
+        BeginsMessage (course_of w holder (shown_at w t)) (shown_at w t) entry → StaysFrom w t → AreApart stations → Each IsRanged stations →
         MessageBegan w t holder entry place stations (attempt_yielded rested.offerer offer x ∷ []) (command_at w t t holder entry ∷ []) }
 {}

@@ -14,7 +14,6 @@ use Rattle.bus_model.specs.Standing.{is_owed}
 use Rattle.bus_model.specs.Strikes.{hits_on, struck, ShownBurst, burst_end, ShownAnswer}
 use Rattle.bus_law_duties.specs.Duties.{AtMostOneOwes}
 use Rattle.bus_law_line.specs.Senders.{attempt_to_come}
-use Rattle.bus_law_messages.proofs.Sending.{shown-long}
 use Rattle.bus_law_parts.specs.Parts.{part_ticks, HitsFit}
 use Rattle.bus_model.specs.WorldLog.{present_stations}
 use Rattle.bus_law_phases.specs.Answers.{AnswerBegins, burst_read, HoldsBeside, AnswerOver, HoldsBesideShown, BeginsAt}
@@ -24,10 +23,11 @@ use Rattle.bus_base.specs.declared.samples.Pair.{Pair}
 use Rattle.bus_words.specs.declared.word.Word.{Word}
 use Rattle.bus_formats.specs.declared.fault.Hit.{Hit}
 use Rattle.bus_law_phases.specs.Moments.{HasDuty, Owes, IsServer, IsAfter}
-use Rattle.bus_law_phases.specs.Scenarios.{Scenario, shown_at, driven_at, commands_in, IsPresentAt, NoneTakesFrom}
+use Rattle.bus_law_phases.specs.Scenarios.{Scenario, shown_at, driven_at, commands_in, IsPresentAt, StaysFrom}
 use Rattle.bus_law_phases.proofs.AnswerBegun.{IsShownBy, shown-by, answer-fits, Owed, owed-of, answer-beside}
 use Rattle.bus_law_phases.proofs.AnswerLeft.{answer_burst}
 use Rattle.bus_law_phases.proofs.AnswerPhase.{over}
+use Rattle.bus_law_phases.proofs.Staying.{long-at}
 
 -- the attempt that runs is that of its command
 running : (faults : List Fault) (part : Part) (driven : List (List Drive)) (n : ℕ) → part ≢ Command → n ≡ attempt_to_come faults First driven →
@@ -37,14 +37,14 @@ running faults First driven n other is = sym is
 running faults Second driven n other is = sym is
 
 module _ (w : Scenario) (t place : ℕ) (holder : StationData) (part : Part) (burst : ShownBurst) (afters : List After) (answer : ShownAnswer)
-    (later : Course) (lag : w.lag ≡ 3) (accepted : IsAccepted w.plan) (stays : NoneTakesFrom w t)
+    (later : Course) (lag : w.lag ≡ 3) (accepted : IsAccepted w.plan) (stays : StaysFrom w t)
     (begins : AnswerBegins w t place holder part burst afters answer)
     (controls : HoldsBesideShown w (shown_at w t) holder burst.channel answer.hits answer.sent.words (burst_read answer.burst) later) where
   is : IsShownBy (hits_on w.plan.faults (commands_in w (driven_at w t)) part) (answer_to burst afters) answer
   is = shown-by (hits_on w.plan.faults (commands_in w (driven_at w t)) part) (answer_to burst afters) answer begins.shown
 
   long : length (shown_at w t) ≡ t
-  long = shown-long w.lag w.plan w.loads w.outside w.absent t
+  long = long-at w t stays
 
   named : hits_on w.plan.faults (attempt_to_come w.plan.faults part (driven_at w t)) part ≡ answer.hits
   named =
@@ -116,7 +116,7 @@ beside-shown w past holder c hits words burst later h = record {
 }
 
 pub answer-passes : (w : Scenario) (t place : ℕ) (holder : StationData) (part : Part) (burst : ShownBurst) (afters : List After) (answer : ShownAnswer)
-    (later : Course) → w.lag ≡ 3 → IsAccepted w.plan → NoneTakesFrom w t → AnswerBegins w t place holder part burst afters answer →
+    (later : Course) → w.lag ≡ 3 → IsAccepted w.plan → StaysFrom w t → AnswerBegins w t place holder part burst afters answer →
     HoldsBeside w (shown_at w t) holder burst.channel (burst_read answer.burst) later →
     AnswerOver w t (burst_end answer.burst + suc w.lag) place holder burst afters answer.burst later
 answer-passes w t place holder part burst afters answer later lag accepted stays begins controls =

@@ -29,7 +29,6 @@ use Rattle.bus_law_duties.specs.Duties.{AtMostOneOwes}
 use Rattle.bus_law_duties.proofs.Settled.{others-stay}
 use Rattle.bus_law_line.specs.Senders.{Sender, attempt_to_come}
 use Rattle.bus_law_messages.specs.Promises.{Listens}
-use Rattle.bus_law_messages.proofs.Sending.{shown-long}
 use Rattle.bus_law_parts.specs.Parts.{part_ticks, HitsFit}
 use Rattle.bus_law_stations.specs.Turns.{KeepsControl, Serves}
 use Rattle.bus_law_table.specs.Happened.{took_in, blocks_in as blocks_now, burst_found}
@@ -40,7 +39,7 @@ use Rattle.bus_law_phases.specs.Moments.{Owes, IsHolder, IsServer, IsAfter, Unde
 use Rattle.bus_law_phases.specs.Pairing.{Beside}
 use Rattle.bus_law_phases.specs.PartRuns.{RunsAlone, PartRuns}
 use Rattle.bus_law_phases.specs.Passages.{HoldsAlone, IsOrderly, Passage}
-use Rattle.bus_law_phases.specs.Scenarios.{Scenario, trace_at, shown_at, driven_at, course_of, standing_of, IsPresentAt, NoneTakesFrom}
+use Rattle.bus_law_phases.specs.Scenarios.{Scenario, trace_at, shown_at, driven_at, course_of, standing_of, IsPresentAt, NoneTakesFrom, StaysFrom}
 use Rattle.bus_law_phases.specs.Silences.{GoesOnTo}
 use Rattle.bus_law_phases.proofs.AnswerBegun.{OwesIt, all-owe-it, not-for}
 use Rattle.bus_law_phases.proofs.AnswerLeft.{answer_burst, holder-left, IsSettled, took-none, spoken-settled, listened-settled}
@@ -56,9 +55,10 @@ use Rattle.bus_law_phases.proofs.PartQuiet.{part-quiet}
 use Rattle.bus_law_phases.proofs.Pairs.{each-of, beside-with}
 use Rattle.bus_law_phases.proofs.Resting.{no-attempt}
 use Rattle.bus_law_phases.proofs.Spares.{all-at, one-gives}
+use Rattle.bus_law_phases.proofs.Staying.{long-at}
 
 module _ (w : Scenario) (t place : ℕ) (holder : StationData) (part : Part) (burst : ShownBurst) (afters : List After) (answer : Answer) (hits : List Hit)
-    (later_course : Course) (lag : w.lag ≡ 3) (accepted : IsAccepted w.plan) (stays : NoneTakesFrom w t)
+    (later_course : Course) (lag : w.lag ≡ 3) (accepted : IsAccepted w.plan) (stays : StaysFrom w t)
     (moment : Underway w (trace_at w t) place holder burst.channel (burst_end burst) part afters) (no_command : part ≢ Command)
     (found : answer_to burst afters ≡ Some answer) (spells : IsStatusWithData answer)
     (named : hits_on w.plan.faults (attempt_to_come w.plan.faults part (driven_at w t)) part ≡ hits) (fits : HitsFit part hits answer.words)
@@ -89,10 +89,10 @@ module _ (w : Scenario) (t place : ℕ) (holder : StationData) (part : Part) (bu
   s = record { station = answerer; channel = c; part = part; words = words }
 
   long : length (shown_at w t) ≡ t
-  long = shown-long w.lag w.plan w.loads w.outside w.absent t
+  long = long-at w t stays
 
   stays-here : NoneTakesFrom w (length (shown_at w t))
-  stays-here = subst (NoneTakesFrom w) (sym long) stays
+  stays-here = subst (NoneTakesFrom w) (sym long) stays.takes
 
   -- ---- who owes the answer, and who listens
 
@@ -139,7 +139,7 @@ module _ (w : Scenario) (t place : ℕ) (holder : StationData) (part : Part) (bu
 
   sending : PartTicks w t (record { station = answerer; channel = c; part = part; words = words }) hits 0
   sending =
-      answer-ticks w t place holder c part words answerer answering hits lag long speaks (moment.fresh c answerer) moment.spent moment.rests no_command named
+      answer-ticks w t place holder c part words answerer answering hits lag stays speaks (moment.fresh c answerer) moment.spent moment.rests no_command named
       fits some goes
 
   abbrev x : Pair

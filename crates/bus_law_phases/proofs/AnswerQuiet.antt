@@ -14,21 +14,20 @@ use Rattle.bus_model.specs.Hearing.{heard_on}
 use Rattle.bus_model.specs.Orders.{Duty, free, owes, promises, due_after}
 use Rattle.bus_model.specs.Standing.{is_owed}
 use Rattle.bus_model.specs.Starts.{starts}
-use Rattle.bus_model.specs.World.{run_is_over}
 use Rattle.bus_law_control.proofs.Early.{leg-breaks}
 use Rattle.bus_law_messages.proofs.Heard.{hearing-long}
 use Rattle.bus_law_stations.proofs.Resting.{heard-long, over-late}
 use Rattle.bus_law_phases.specs.Moments.{Owes, HasDuty}
 use Rattle.bus_law_phases.specs.Pairing.{Beside}
 use Rattle.bus_law_phases.specs.PartRuns.{RunsAlone}
-use Rattle.bus_law_phases.specs.Scenarios.{Scenario, shown_at, hearing_of, standing_of}
+use Rattle.bus_law_phases.specs.Scenarios.{Scenario, shown_at, hearing_of, standing_of, is_over_at}
 use Rattle.bus_law_phases.specs.Silences.{GoesOnTo}
 use Rattle.bus_law_phases.proofs.Legs.{busy-goes-on}
 
 -- ---- the run goes on
 
 pub quiet-goes-on : (w : Scenario) (i : ℕ) (past : List Pair) → shown_at w i ≡ past → quiet_both past < ending_quiet →
-    run_is_over w.lag w.plan w.loads w.outside w.absent i ≡ false
+    is_over_at w i ≡ false
 quiet-goes-on w i past same few =
     let low : nat_le ending_quiet (quiet_both past) ≡ false = grind (arith, nat_tests, few) in rw (same, low) refl
 
@@ -41,14 +40,14 @@ both-few [] = omega arith
 both-few (x ∷ past) = few-by (both_quiet x) (quiet_both past) (length past) (both-few past)
 
 first-goes-on : (w : Scenario) (t i : ℕ) (past : List Pair) → length past ≡ t → shown_at w i ≡ past → GoesOnTo w past (suc t) →
-    run_is_over w.lag w.plan w.loads w.outside w.absent i ≡ false
+    is_over_at w i ≡ false
 first-goes-on w t i past long same (inl busy) = busy-goes-on w i past same busy
 first-goes-on w t i past long same (inr bound) =
     let within = both-few past in quiet-goes-on w i past same (omega (arith, bound, long, within))
 
 -- while a burst runs it goes on
 pub answer-goes-on : (w : Scenario) (t : ℕ) (c : Channel) (past ticks : List Pair) → w.lag ≡ 3 → length past ≡ t → GoesOnTo w past (suc t) →
-    RunsAlone w.lag c ticks → (i : ℕ) → shown_at w i ≡ ticks ++ past → run_is_over w.lag w.plan w.loads w.outside w.absent i ≡ false
+    RunsAlone w.lag c ticks → (i : ℕ) → shown_at w i ≡ ticks ++ past → is_over_at w i ≡ false
 answer-goes-on w t c past [] lag long goes alone i same = first-goes-on w t i past long same goes
 answer-goes-on w t c past (x ∷ ticks) lag long goes alone i same =
     let few = leg-breaks w.lag c past ticks x alone.leg in quiet-goes-on w i ((x ∷ ticks) ++ past) same (omega (arith, few, lag))

@@ -16,20 +16,21 @@ use Rattle.bus_model.specs.Sending.{drive_sample}
 use Rattle.bus_model.specs.Strikes.{hits_on}
 use Rattle.bus_model.specs.Terminal.{took_now}
 use Rattle.bus_model.specs.Transmissions.{station_drive}
-use Rattle.bus_model.specs.World.{drives_after, run_is_over}
+use Rattle.bus_model.specs.World.{drives_after}
 use Rattle.bus_law_line.specs.Senders.{Sender, IsSpent, attempt_to_come}
 use Rattle.bus_law_parts.specs.Parts.{part_ticks, HitsFit, IsFresh}
 use Rattle.bus_law_parts.proofs.Counting.{count-answer}
 use Rattle.bus_law_phases.specs.PartRuns.{PartRuns, IsFirstOf}
 use Rattle.bus_law_phases.specs.Passages.{HoldsAlone}
-use Rattle.bus_law_phases.specs.Scenarios.{Scenario, trace_at, shown_at, driven_at, commands_in, course_of, hearing_of, IsPresentAt}
+use Rattle.bus_law_phases.specs.Scenarios.{Scenario, trace_at, shown_at, driven_at, commands_in, course_of, hearing_of, IsPresentAt, is_over_at, StaysFrom}
 use Rattle.bus_law_phases.specs.Silences.{GoesOnTo}
 use Rattle.bus_law_phases.proofs.AnswerQuiet.{answer-goes-on}
 use Rattle.bus_law_phases.proofs.AnswerSending.{Speaks, own-drives, others-silent, all-still, all-takes, held}
 use Rattle.bus_law_phases.proofs.PartTicks.{PartTicks, all-ticks}
+use Rattle.bus_law_phases.proofs.Staying.{long-at}
 
 module _ (w : Scenario) (t place : ℕ) (holder : StationData) (c : Channel) (part : Part) (words : List Word) (answerer : ℕ) (answering : StationData)
-    (hits : List Hit) (lag : w.lag ≡ 3) (long : length (shown_at w t) ≡ t) (speaks : Speaks w (shown_at w t) place holder c part words hits answerer answering)
+    (hits : List Hit) (lag : w.lag ≡ 3) (stays : StaysFrom w t) (speaks : Speaks w (shown_at w t) place holder c part words hits answerer answering)
     (fresh : IsFresh w.plan.faults c (driven_at w t) answerer)
     (spent : (d : Channel) (station : ℕ) → IsSpent w.plan.faults d (driven_at w t) station)
     (rests : (d : Channel) → runs w.lag (on_channel d (shown_at w t)) ≡ false) (no_command : part ≢ Command)
@@ -64,8 +65,8 @@ module _ (w : Scenario) (t place : ℕ) (holder : StationData) (c : Channel) (pa
   hands ticks alone few = held w past place holder c part words hits answerer answering lag speaks ticks alone
 
   goes-for : (ticks : List Pair) → IsFirstOf w.lag c hits words ticks → length ticks < limit → (i : ℕ) → shown_at w i ≡ ticks ++ past →
-      run_is_over w.lag w.plan w.loads w.outside w.absent i ≡ false
-  goes-for ticks alone few = answer-goes-on w t c past ticks lag long goes alone.alone
+      is_over_at w i ≡ false
+  goes-for ticks alone few = answer-goes-on w t c past ticks lag (long-at w t stays) goes alone.alone
 
   -- no command began
   counted-by : (n : ℕ) → 0 < n → (more : List Pair) (out : List (List Drive)) → PartRuns w (trace_at w t) s hits n more out →
@@ -74,4 +75,4 @@ module _ (w : Scenario) (t place : ℕ) (holder : StationData) (c : Channel) (pa
       let same = count-answer w.plan.faults s (driven_at w t) out so.part.ticks no_command so.commands in omega (arith, same)
 
   pub answer-ticks : PartTicks w t (record { station = answerer; channel = c; part = part; words = words }) hits 0
-  answer-ticks = all-ticks w t s hits lag fresh spent rests named fits some own others still takes hands goes-for 0 counted-by
+  answer-ticks = all-ticks w t s hits lag stays fresh spent rests named fits some own others still takes hands goes-for 0 counted-by

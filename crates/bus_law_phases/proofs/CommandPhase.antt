@@ -24,7 +24,7 @@ use Rattle.bus_model.specs.Strikes.{ShownBurst, hits_on, struck, burst_end}
 use Rattle.bus_model.specs.Sending.{drive_sample}
 use Rattle.bus_model.specs.Terminal.{took_now}
 use Rattle.bus_model.specs.Transmissions.{station_drive}
-use Rattle.bus_model.specs.World.{Trace, is_present, drives_after, run_is_over}
+use Rattle.bus_model.specs.World.{Trace, is_present, drives_after}
 use Rattle.bus_model.specs.WorldLog.{present_stations, attempt_at, ended_by}
 use Rattle.bus_law_control.proofs.Holding.{heard-nothing}
 use Rattle.bus_law_duties.specs.Duties.{AreApart}
@@ -34,7 +34,6 @@ use Rattle.bus_law_messages.specs.Commands.{command_sender}
 use Rattle.bus_law_messages.specs.Ends.{HeardCommand, SentCommand}
 use Rattle.bus_law_messages.specs.Settled.{IsServing}
 use Rattle.bus_law_messages.proofs.Closing.{sent-command}
-use Rattle.bus_law_messages.proofs.Sending.{shown-long}
 use Rattle.bus_law_parts.specs.Parts.{part_ticks, HitsFit}
 use Rattle.bus_law_stations.specs.Messages.{BeginsMessage, message_begun}
 use Rattle.bus_law_stations.specs.Silence.{AwaitsFirst}
@@ -52,7 +51,7 @@ use Rattle.bus_law_phases.specs.Moments.{IsHolder, IsAfter, Underway}
 use Rattle.bus_law_phases.specs.PartRuns.{burst_shown, RunsAlone, IsFirstOf, PartRuns}
 use Rattle.bus_law_phases.specs.Passages.{HoldsAlone, IsOrderly, Passage}
 use Rattle.bus_law_phases.specs.Rests.{Rested}
-use Rattle.bus_law_phases.specs.Scenarios.{Scenario, trace_at, shown_at, driven_at, course_of, hearing_of, IsPresentAt, NoneTakesFrom}
+use Rattle.bus_law_phases.specs.Scenarios.{Scenario, trace_at, shown_at, driven_at, course_of, hearing_of, IsPresentAt, NoneTakesFrom, StaysFrom, is_over_at}
 use Rattle.bus_law_phases.proofs.Commanding.{controls, shows-of, own-drives, others-silent, all-still, all-takes, held, someone-busy}
 use Rattle.bus_law_phases.proofs.AnswerHolders.{closed-attempts, no-attempts}
 use Rattle.bus_law_phases.proofs.AnswerLeft.{holder-left}
@@ -64,18 +63,19 @@ use Rattle.bus_law_phases.proofs.PartPassing.{part-passes}
 use Rattle.bus_law_phases.proofs.PartQuiet.{part-quiet}
 use Rattle.bus_law_phases.proofs.PartTicks.{PartTicks, all-ticks, one-begins}
 use Rattle.bus_law_phases.proofs.Spares.{all-at, one-gives, beside-into}
+use Rattle.bus_law_phases.proofs.Staying.{long-at}
 
 module _ (w : Scenario) (t place : ℕ) (holder : StationData) (stations : List Present) (entry : Entry) (lag : w.lag ≡ 3) (accepted : IsAccepted w.plan)
     (ranges : HasItemRanges entry.item) (rested : Rested w (trace_at w t) place holder stations)
-    (begins : BeginsMessage (course_of w holder (shown_at w t)) (shown_at w t) entry) (stays : NoneTakesFrom w t) (separate : AreApart stations) where
+    (begins : BeginsMessage (course_of w holder (shown_at w t)) (shown_at w t) entry) (stays : StaysFrom w t) (separate : AreApart stations) where
   abbrev past : List Pair
   past = shown_at w t
 
   long : length (shown_at w t) ≡ t
-  long = shown-long w.lag w.plan w.loads w.outside w.absent t
+  long = long-at w t stays
 
   stays-here : NoneTakesFrom w (length (shown_at w t))
-  stays-here = subst (NoneTakesFrom w) (sym long) stays
+  stays-here = subst (NoneTakesFrom w) (sym long) stays.takes
 
   abbrev begun : Begun
   begun = message_begun (course_of w holder past) entry (length past)
@@ -128,7 +128,7 @@ module _ (w : Scenario) (t place : ℕ) (holder : StationData) (stations : List 
   hands ticks alone few = held w now place holder stations entry lag rested begins stays-here ticks alone.alone
 
   goes : (ticks : List Pair) → IsFirstOf w.lag c hits words ticks → length ticks < limit → (i : ℕ) → shown_at w i ≡ ticks ++ past →
-      run_is_over w.lag w.plan w.loads w.outside w.absent i ≡ false
+      is_over_at w i ≡ false
   goes ticks alone few i same =
       busy-goes-on w i (ticks ++ past) same (someone-busy w now place holder stations entry lag rested begins stays-here ticks alone.alone)
 
@@ -136,7 +136,7 @@ module _ (w : Scenario) (t place : ℕ) (holder : StationData) (stations : List 
 
   sending : PartTicks w t s hits 1
   sending =
-      all-ticks w t s hits lag (rested.fresh c place) rested.spent rested.rests refl fits some own others still takes hands goes 1
+      all-ticks w t s hits lag stays (rested.fresh c place) rested.spent rested.rests refl fits some own others still takes hands goes 1
       (one-begins w t s hits refl)
 
   abbrev x : Pair

@@ -20,14 +20,12 @@ use Rattle.bus_model.specs.World.{Trace, is_present}
 use Rattle.bus_model.specs.WorldLog.{present_stations}
 use Rattle.bus_law_line.specs.Senders.{LeftAlone}
 use Rattle.bus_law_parts.specs.Parts.{IsFresh}
-use Rattle.bus_law_messages.proofs.Sending.{shown-long}
-use Rattle.bus_law_messages.proofs.LaterTicks.{trace-later}
 use Rattle.bus_law_stations.specs.Silence.{NothingStarts, StationRests}
 use Rattle.bus_law_stations.proofs.StillStation.{still-after}
 use Rattle.bus_law_table.specs.Stations.{loaded_at}
 use Rattle.bus_law_table.proofs.Still.{rests-told}
 use Rattle.bus_law_phases.specs.Pairing.{Beside}
-use Rattle.bus_law_phases.specs.Scenarios.{Scenario, trace_at, shown_at, driven_at, course_of, present_of, IsPresentAt, NoneTakesFrom}
+use Rattle.bus_law_phases.specs.Scenarios.{Scenario, trace_at, shown_at, driven_at, course_of, present_of, IsPresentAt, NoneTakesFrom, StaysFrom}
 use Rattle.bus_law_phases.specs.Passages.{HoldsAlone, Passage, nothing_happens}
 use Rattle.bus_law_phases.specs.Silences.{AllRest, IsQuiet, GoesOnTo}
 use Rattle.bus_law_phases.specs.Moments.{DutyLasts, IsHolder, IsServer, IsAfter, Underway, LastsTo}
@@ -35,6 +33,7 @@ use Rattle.bus_law_phases.proofs.Duties.{duty-rests, duty-later}
 use Rattle.bus_law_phases.proofs.Pairs.{each-of, beside-at, beside-with}
 use Rattle.bus_law_phases.proofs.Silence.{QuietTicks, quiet-for, silence}
 use Rattle.bus_law_phases.proofs.Unheard.{holder-rests}
+use Rattle.bus_law_phases.proofs.Staying.{long-at, ticks-later}
 
 -- ---- who holds control
 
@@ -148,15 +147,15 @@ fresh-later faults d before (now ∷ silent) station left fresh = rw (left.undri
 module _ (w : Scenario) (t n place : ℕ) (holder : StationData) (c : Channel) (e : ℕ) (part : Part) (afters : List After)
     (moment : Underway w (trace_at w t) place holder c e part afters)
     (waits : NothingStarts w.lag (course_of w holder (shown_at w t)) (shown_at w t) n) (lasts : All (LastsTo (t + n) e) afters)
-    (stays : NoneTakesFrom w t) (goes : GoesOnTo w (shown_at w t) (t + n)) where
+    (stays : StaysFrom w t) (goes : GoesOnTo w (shown_at w t) (t + n)) where
   long : length (shown_at w t) ≡ t
-  long = shown-long w.lag w.plan w.loads w.outside w.absent t
+  long = long-at w t stays
 
   lasts-here : All (LastsTo (length (shown_at w t) + n) e) afters
   lasts-here = subst (λ m. All (LastsTo (m + n) e) afters) (sym long) lasts
 
   stays-here : NoneTakesFrom w (length (shown_at w t))
-  stays-here = subst (NoneTakesFrom w) (sym long) stays
+  stays-here = subst (NoneTakesFrom w) (sym long) stays.takes
 
   rests : AllRest w (shown_at w t) n
   rests = all-rest w (trace_at w t) place holder c e part afters moment n waits lasts-here stays-here
@@ -168,7 +167,7 @@ module _ (w : Scenario) (t n place : ℕ) (holder : StationData) (c : Channel) (
   ticks = quiet-for w (trace_at w t) n rests moment.spent n (omega arith)
 
   later-trace : trace_at w (t + n) ≡ record { shown = quiet_pairs n ++ shown_at w t; driven = ticks.driven ++ driven_at w t }
-  later-trace = sym (trace-later w.lag w.plan w.loads w.outside w.absent t n) ∙ ticks.world
+  later-trace = sym (ticks-later w t n stays) ∙ ticks.world
 
   course-then : (other : ℕ) (station : StationData) → IsPresentAt w other station →
       course_of w station (quiet_pairs n ++ shown_at w t) ≡ course_of w station (shown_at w t)
@@ -194,7 +193,7 @@ module _ (w : Scenario) (t n place : ℕ) (holder : StationData) (c : Channel) (
   pub lasting : (shown_at w (t + n) ≡ quiet_pairs n ++ shown_at w t) × Underway w (trace_at w (t + n)) place holder c e part afters
       × (course_of w holder (shown_at w (t + n)) ≡ course_of w holder (shown_at w t)) × Passage w t (t + n) nothing_happens
   lasting =
-      let still = silence w t n quiet rests (held-alone w (trace_at w t) place holder c e part afters moment) goes in (
+      let still = silence w t n stays quiet rests (held-alone w (trace_at w t) place holder c e part afters moment) goes in (
         still.0,
         subst (λ tr. Underway w tr place holder c e part afters) (sym later-trace) (then-underway (subst (IsQuiet w) later-trace still.1)),
         ap (course_of w holder) still.0 ∙ course-then place holder moment.at,

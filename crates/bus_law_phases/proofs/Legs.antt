@@ -22,25 +22,25 @@ use Rattle.bus_model.specs.Terminal.{took_now}
 use Rattle.bus_model.specs.Transmissions.{station_drive}
 use Rattle.bus_model.specs.Control.{so_far}
 use Rattle.bus_model.specs.Wire.{drivers}
-use Rattle.bus_model.specs.World.{Trace, drives_after, drivers_in, is_done, run_is_over}
+use Rattle.bus_model.specs.World.{Trace, drives_after, is_done}
 use Rattle.bus_model.specs.WorldLog.{present_stations, attempt_at, ended_by, attempts}
 use Rattle.bus_law_control.proofs.Holding.{ended-before}
 use Rattle.bus_law_line.specs.Senders.{Sender, IsSpent, attempt_to_come}
 use Rattle.bus_law_line.proofs.Sent.{left-undriven}
 use Rattle.bus_law_messages.proofs.Listening.{this-or-other}
-use Rattle.bus_law_messages.proofs.LaterTicks.{trace-later}
 use Rattle.bus_law_parts.specs.Parts.{part_ticks, HitsFit, IsFresh}
 use Rattle.bus_law_parts.proofs.SentParts.{part-drivers}
 use Rattle.bus_law_table.specs.Happened.{block_at, took_in, blocks_in as blocks_now, blocks_found}
 use Rattle.bus_law_table.proofs.Pairing.{none-each}
 use Rattle.bus_law_table.proofs.Ticks.{leg-bursts}
-use Rattle.bus_law_phases.specs.Scenarios.{Scenario, trace_at, shown_at, driven_at, blocks_in, attempts_in, commands_in, course_of, hearing_of, standing_of, IsPresentAt}
+use Rattle.bus_law_phases.specs.Scenarios.{Scenario, trace_at, shown_at, driven_at, blocks_in, attempts_in, commands_in, course_of, hearing_of, standing_of, IsPresentAt, drivers_at, is_over_at, StaysFrom}
 use Rattle.bus_law_phases.specs.Passages.{HoldsAlone, IsOrderly, Passage}
 use Rattle.bus_law_phases.specs.PartRuns.{RunsAlone, IsFirstOf, PartRuns}
 use Rattle.bus_law_phases.specs.Silences.{SomeoneIsBusy}
 use Rattle.bus_law_phases.proofs.PartRunning.{on-more, part-runs, one-more, first-of}
 use Rattle.bus_law_phases.proofs.Resting.{each-present, no-attempt, none-of-each}
 use Rattle.bus_law_phases.proofs.Silence.{not-all, and-false}
+use Rattle.bus_law_phases.proofs.Staying.{ticks-later}
 
 -- one tick fewer
 pub runs-less : (k : ℕ) (c : Channel) (x : Pair) (ticks : List Pair) → RunsAlone k c (x ∷ ticks) → RunsAlone k c ticks
@@ -55,7 +55,7 @@ first-less k c hits words x ticks first = record {
 
 -- a run isn't over where somebody is busy
 pub busy-goes-on : (w : Scenario) (i : ℕ) (past : List Pair) → shown_at w i ≡ past → SomeoneIsBusy w past →
-    run_is_over w.lag w.plan w.loads w.outside w.absent i ≡ false
+    is_over_at w i ≡ false
 busy-goes-on w i past same busy =
     let present = busy.at.present in
     let idle = busy.busy in
@@ -64,7 +64,7 @@ busy-goes-on w i past same busy =
     not-all (is_done w.lag w.plan w.loads w.outside w.absent past) w.plan.stations busy.place busy.station busy.at.there fails in
     rw (same, none) (and-false (nat_le ending_quiet (quiet_both past)))
 
-module _ (w : Scenario) (t : ℕ) (s : Sender) (hits : List Hit) (limit : ℕ) (lag : w.lag ≡ 3)
+module _ (w : Scenario) (t : ℕ) (s : Sender) (hits : List Hit) (limit : ℕ) (lag : w.lag ≡ 3) (stays : StaysFrom w t)
     (fresh : IsFresh w.plan.faults s.channel (driven_at w t) s.station)
     (spent : (d : Channel) (station : ℕ) → IsSpent w.plan.faults d (driven_at w t) station)
     (rests : (d : Channel) → runs w.lag (on_channel d (shown_at w t)) ≡ false)
@@ -81,7 +81,7 @@ module _ (w : Scenario) (t : ℕ) (s : Sender) (hits : List Hit) (limit : ℕ) (
     IsPresentAt w place station → took_now w.lag station.terminal w.loads (hearing_of w station ((x ∷ ticks) ++ shown_at w t)) ≡ None)
     (hands : (ticks : List Pair) → IsFirstOf w.lag s.channel hits s.words ticks → length ticks < limit → HoldsAlone w (ticks ++ shown_at w t))
     (goes : (ticks : List Pair) → IsFirstOf w.lag s.channel hits s.words ticks → length ticks < limit → (i : ℕ) → shown_at w i ≡ ticks ++ shown_at w t →
-    run_is_over w.lag w.plan w.loads w.outside w.absent i ≡ false) where
+    is_over_at w i ≡ false) where
   abbrev c : Channel
   c = s.channel
 
@@ -98,7 +98,7 @@ module _ (w : Scenario) (t : ℕ) (s : Sender) (hits : List Hit) (limit : ℕ) (
 
   pub trace-is : (n : ℕ) (ticks : List Pair) (sent : List (List Drive)) → PartRuns w (trace_at w t) s hits n ticks sent →
       trace_at w (t + n) ≡ record { shown = ticks ++ past; driven = sent ++ driven_at w t }
-  trace-is n ticks sent so = sym (trace-later w.lag w.plan w.loads w.outside w.absent t n) ∙ so.world
+  trace-is n ticks sent so = sym (ticks-later w t n stays) ∙ so.world
 
   pub shown-is : (n : ℕ) (ticks : List Pair) (sent : List (List Drive)) → PartRuns w (trace_at w t) s hits n ticks sent → shown_at w (t + n) ≡ ticks ++ past
   shown-is n ticks sent so = ap (λ (tr : Trace). tr.shown) (trace-is n ticks sent so)
@@ -149,7 +149,7 @@ module _ (w : Scenario) (t : ℕ) (s : Sender) (hits : List Hit) (limit : ℕ) (
   next-tick m = omega arith
 
   -- at most one station drives a channel in the tick after the first m of them
-  pub drives-one : (m : ℕ) → m < limit → (d : Channel) → drivers_in w.lag w.plan w.loads w.outside w.absent (t + m) d ≤ 1
+  pub drives-one : (m : ℕ) → m < limit → (d : Channel) → drivers_at w (t + m) d ≤ 1
   drives-one m early d =
       let so = sent-ticks m (omega (arith, early)) in
       let now = drives_after w.lag w.plan w.loads w.outside w.absent (so.0 ++ past) in
@@ -163,7 +163,7 @@ module _ (w : Scenario) (t : ℕ) (s : Sender) (hits : List Hit) (limit : ℕ) (
             (let none = left-undriven w.plan.faults (other_of c) (driven_at w t) so.1 now more.beside in omega (arith, none))
       ]))
 
-  pub goes-on : (m : ℕ) → m < limit → run_is_over w.lag w.plan w.loads w.outside w.absent (t + m) ≡ false
+  pub goes-on : (m : ℕ) → m < limit → is_over_at w (t + m) ≡ false
   goes-on m early =
       let so = sent-ticks m (omega (arith, early)) in
       goes so.0 (first-for m so.0 so.1 early so.2) (omega (arith, early, so.2.many)) (t + m) (shown-is m so.0 so.1 so.2)

@@ -3,6 +3,7 @@ pub mod Within
 pub mod Unheard
 pub mod Passing
 pub mod Resting
+pub mod Staying
 pub mod Silence
 pub mod Duties
 pub mod Lasting

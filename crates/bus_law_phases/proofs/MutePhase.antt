@@ -30,15 +30,14 @@ use Rattle.bus_model.specs.World.{Trace, is_present, drives_after}
 use Rattle.bus_model.specs.WorldLog.{present_stations, ended_by}
 use Rattle.bus_law_line.specs.Senders.{Sender}
 use Rattle.bus_law_messages.proofs.Pausing.{on-quiet, from-quiet}
-use Rattle.bus_law_messages.proofs.Sending.{place-silent, place-drives, shown-long}
-use Rattle.bus_law_messages.proofs.LaterTicks.{trace-later}
+use Rattle.bus_law_messages.proofs.Sending.{place-silent, place-drives}
 use Rattle.bus_law_parts.specs.Parts.{part_ticks}
 use Rattle.bus_law_stations.specs.Silence.{NothingStarts, StationRests}
 use Rattle.bus_law_stations.proofs.Resting.{rests-quiet}
 use Rattle.bus_law_stations.proofs.StillStation.{still-after, still-quiet}
 use Rattle.bus_law_table.proofs.Pairing.{Each}
 use Rattle.bus_law_table.proofs.Still.{rests-takes}
-use Rattle.bus_law_phases.specs.Scenarios.{Scenario, trace_at, shown_at, driven_at, commands_in, course_of, hearing_of, IsPresentAt, NoneTakesFrom}
+use Rattle.bus_law_phases.specs.Scenarios.{Scenario, trace_at, shown_at, driven_at, commands_in, course_of, hearing_of, IsPresentAt, NoneTakesFrom, StaysFrom}
 use Rattle.bus_law_phases.specs.Passages.{HoldsAlone, IsOrderly, Passage, nothing_happens}
 use Rattle.bus_law_phases.specs.Silences.{GoesOnTo}
 use Rattle.bus_law_phases.specs.Moments.{HasDuty, DutyLasts, Owes, IsHolder, IsServer, IsAfter, Underway}
@@ -55,9 +54,10 @@ use Rattle.bus_law_phases.proofs.SilencedStart.{named-apart}
 use Rattle.bus_law_phases.proofs.SilencedTick.{NoneTakesBlocks, over-not-now, quiet-tick-passes}
 use Rattle.bus_law_phases.proofs.SilencedUnmoved.{pairs-none}
 use Rattle.bus_law_phases.proofs.Unheard.{holder-rests}
+use Rattle.bus_law_phases.proofs.Staying.{long-at, long-later, ticks-later}
 
 module _ (w : Scenario) (t place : ℕ) (holder : StationData) (part : Part) (burst : ShownBurst) (afters : List After) (answer : Answer)
-    (lag : w.lag ≡ 3) (accepted : IsAccepted w.plan) (stays : NoneTakesFrom w t) (m : IsMute w t place holder part burst afters answer)
+    (lag : w.lag ≡ 3) (accepted : IsAccepted w.plan) (stays : StaysFrom w t) (m : IsMute w t place holder part burst afters answer)
     (waits : NothingStarts w.lag (course_of w holder (shown_at w t)) (shown_at w t) (suc w.lag)) (goes : GoesOnTo w (shown_at w t) (t + suc w.lag)) where
   abbrev past : List Pair
   past = shown_at w t
@@ -78,10 +78,10 @@ module _ (w : Scenario) (t place : ℕ) (holder : StationData) (part : Part) (bu
   Now = IsAfter w past place holder c e part
 
   long : length (shown_at w t) ≡ t
-  long = shown-long w.lag w.plan w.loads w.outside w.absent t
+  long = long-at w t stays
 
   stays-here : NoneTakesFrom w (length (shown_at w t))
-  stays-here = subst (NoneTakesFrom w) (sym long) stays
+  stays-here = subst (NoneTakesFrom w) (sym long) stays.takes
 
   owes-this : Each (OwesThis burst answer) afters
   owes-this = all-owe-this burst afters answer m.moment.one m.found
@@ -221,7 +221,7 @@ module _ (w : Scenario) (t place : ℕ) (holder : StationData) (part : Part) (bu
         (ap (λ i. hits_on w.plan.faults i part) (answer-attempt w t part m.part_is)) m.fits mute (omega (arith, lag)) own others n few
 
     later-is : (n : ℕ) (few : n ≤ all) → trace_at w (t + n) ≡ record { shown = later n; driven = (ticks n few).driven ++ driven_at w t }
-    later-is n few = sym (trace-later w.lag w.plan w.loads w.outside w.absent t n) ∙ (ticks n few).world
+    later-is n few = sym (ticks-later w t n stays) ∙ (ticks n few).world
 
     shown-is : (n : ℕ) → n ≤ all → shown_at w (t + n) ≡ quiet_pairs n ++ shown_at w t
     shown-is n few = ap (λ (tr : Trace). tr.shown) (later-is n few)
@@ -261,7 +261,7 @@ module _ (w : Scenario) (t place : ℕ) (holder : StationData) (part : Part) (bu
               (mute-drivers w (trace_at w t) s hits m.part_is n (ticks (suc n) more) d));
           hands = inl (subst (λ u. HoldsAlone w (shown_at w u)) (next-tick n)
               (subst (HoldsAlone w) (sym (shown-is (suc n) more)) (hands (suc n) more)));
-          goes_on = over-not-now w (t + n) (subst (λ p. GoesOnTo w p (suc (t + n))) (sym (shown-is n less)) (goes-then n few));
+          goes_on = over-not-now w (t + n) (long-later w t (t + n) (omega arith) stays) (subst (λ p. GoesOnTo w p (suc (t + n))) (sym (shown-is n less)) (goes-then n few));
         }
 
     ended : (n : ℕ) → n < all →

@@ -14,14 +14,14 @@ use Rattle.bus_model.specs.Strikes.{hits_on}
 use Rattle.bus_model.specs.Terminal.{took_now}
 use Rattle.bus_model.specs.Transmissions.{station_drive}
 use Rattle.bus_model.specs.Wire.{shown}
-use Rattle.bus_model.specs.World.{Trace, drives_after, drivers_in, run_is_over}
+use Rattle.bus_model.specs.World.{Trace, drives_after}
 use Rattle.bus_law_line.specs.Senders.{Sender, IsSpent, attempt_to_come}
 use Rattle.bus_law_parts.specs.Parts.{part_ticks, HitsFit, IsFresh}
 use Rattle.bus_base.specs.declared.samples.Part.TheVariants.{Command}
 use Rattle.bus_law_parts.proofs.Counting.{count-command}
 use Rattle.bus_law_phases.specs.PartRuns.{PartRuns, IsFirstOf}
 use Rattle.bus_law_phases.specs.Passages.{HoldsAlone, Passage}
-use Rattle.bus_law_phases.specs.Scenarios.{Scenario, trace_at, shown_at, driven_at, commands_in, course_of, hearing_of, IsPresentAt}
+use Rattle.bus_law_phases.specs.Scenarios.{Scenario, trace_at, shown_at, driven_at, commands_in, course_of, hearing_of, IsPresentAt, drivers_at, is_over_at, StaysFrom}
 use Rattle.bus_law_phases.proofs.Legs.{sent-ticks, first-for, trace-is, drives-one, goes-on, leg-passes}
 use Rattle.bus_law_phases.proofs.PartRunning.{one-more}
 
@@ -41,8 +41,8 @@ pub record PartTicks (w : Scenario) (t : ℕ) (s : Sender) (hits : List Hit) (be
   -- nothing else came to pass before the newest, which is in order
   pub passed : Passage w t (t + (part_ticks hits s.words + w.lag)) record { blocks = []; bursts = []; attempts = []; commands = begun }
   pub counted : commands_in w (driven_at w (t + suc (part_ticks hits s.words + w.lag))) ≡ commands_in w (driven_at w t) + begun
-  pub drives : (d : Channel) → drivers_in w.lag w.plan w.loads w.outside w.absent (t + (part_ticks hits s.words + w.lag)) d ≤ 1
-  pub goes_on : run_is_over w.lag w.plan w.loads w.outside w.absent (t + (part_ticks hits s.words + w.lag)) ≡ false
+  pub drives : (d : Channel) → drivers_at w (t + (part_ticks hits s.words + w.lag)) d ≤ 1
+  pub goes_on : is_over_at w (t + (part_ticks hits s.words + w.lag)) ≡ false
 
 -- a command begins with the first of its ticks
 pub one-begins : (w : Scenario) (t : ℕ) (s : Sender) (hits : List Hit) → s.part ≡ Command → (n : ℕ) → 0 < n → (ticks : List Pair)
@@ -51,7 +51,7 @@ one-begins w t s hits command n any ticks [] so = let none = so.long in absurd (
 one-begins w t s hits command n any ticks (drives ∷ sent) so =
     count-command w.plan.faults s hits (driven_at w t) sent drives so.part command so.commands ∙ omega arith
 
-module _ (w : Scenario) (t : ℕ) (s : Sender) (hits : List Hit) (lag : w.lag ≡ 3)
+module _ (w : Scenario) (t : ℕ) (s : Sender) (hits : List Hit) (lag : w.lag ≡ 3) (stays : StaysFrom w t)
     (fresh : IsFresh w.plan.faults s.channel (driven_at w t) s.station)
     (spent : (d : Channel) (station : ℕ) → IsSpent w.plan.faults d (driven_at w t) station)
     (rests : (d : Channel) → runs w.lag (on_channel d (shown_at w t)) ≡ false)
@@ -72,7 +72,7 @@ module _ (w : Scenario) (t : ℕ) (s : Sender) (hits : List Hit) (lag : w.lag �
     (hands : (ticks : List Pair) → IsFirstOf w.lag s.channel hits s.words ticks → length ticks < part_ticks hits s.words + suc w.lag →
     HoldsAlone w (ticks ++ shown_at w t))
     (goes : (ticks : List Pair) → IsFirstOf w.lag s.channel hits s.words ticks → length ticks < part_ticks hits s.words + suc w.lag → (i : ℕ) →
-    shown_at w i ≡ ticks ++ shown_at w t → run_is_over w.lag w.plan w.loads w.outside w.absent i ≡ false)
+    shown_at w i ≡ ticks ++ shown_at w t → is_over_at w i ≡ false)
     (begun : ℕ) (counted : (n : ℕ) → 0 < n → (ticks : List Pair) (sent : List (List Drive)) → PartRuns w (trace_at w t) s hits n ticks sent →
     commands_in w (sent ++ driven_at w t) ≡ commands_in w (driven_at w t) + begun) where
   abbrev past : List Pair
@@ -97,7 +97,7 @@ module _ (w : Scenario) (t : ℕ) (s : Sender) (hits : List Hit) (lag : w.lag �
   now = trace_at w t
 
   sent-first : (ticks : List Pair) × (sent : List (List Drive)) × PartRuns w now s hits m ticks sent
-  sent-first = sent-ticks w t s hits limit lag fresh spent rests named fits some bound own others still takes hands goes m (omega arith)
+  sent-first = sent-ticks w t s hits limit lag stays fresh spent rests named fits some bound own others still takes hands goes m (omega arith)
 
   abbrev ticks : List Pair
   ticks = sent-first.0
@@ -116,7 +116,7 @@ module _ (w : Scenario) (t : ℕ) (s : Sender) (hits : List Hit) (lag : w.lag �
 
   later-trace : trace_at w (t + suc m) ≡ record { shown = (x ∷ ticks) ++ past; driven = (driven ∷ sent) ++ driven_at w t }
   later-trace =
-      trace-is w t s hits limit lag fresh spent rests named fits some bound own others still takes hands goes (suc m) (x ∷ ticks) (driven ∷ sent) whole-at
+      trace-is w t s hits limit lag stays fresh spent rests named fits some bound own others still takes hands goes (suc m) (x ∷ ticks) (driven ∷ sent) whole-at
 
   pub all-ticks : PartTicks w t s hits begun
   all-ticks = record {
@@ -125,13 +125,13 @@ module _ (w : Scenario) (t : ℕ) (s : Sender) (hits : List Hit) (lag : w.lag �
     driven = driven;
     sent = sent;
     whole = subst (λ n. PartRuns w now s hits n (x ∷ ticks) (driven ∷ sent)) last-is whole-at;
-    first = first-for w t s hits limit lag fresh spent rests named fits some bound own others still takes hands goes m ticks sent early sent-first.2;
+    first = first-for w t s hits limit lag stays fresh spent rests named fits some bound own others still takes hands goes m ticks sent early sent-first.2;
     many = sent-first.2.many;
     before = ap (λ (tr : Trace). tr.shown)
-        (trace-is w t s hits limit lag fresh spent rests named fits some bound own others still takes hands goes m ticks sent sent-first.2);
+        (trace-is w t s hits limit lag stays fresh spent rests named fits some bound own others still takes hands goes m ticks sent sent-first.2);
     trace = later-trace;
-    passed = leg-passes w t s hits limit lag fresh spent rests named fits some bound own others still takes hands goes m early begun (counted m (omega (arith, some)));
+    passed = leg-passes w t s hits limit lag stays fresh spent rests named fits some bound own others still takes hands goes m early begun (counted m (omega (arith, some)));
     counted = ap (λ (tr : Trace). commands_in w tr.driven) later-trace ∙ counted (suc m) (omega arith) (x ∷ ticks) (driven ∷ sent) whole-at;
-    drives = drives-one w t s hits limit lag fresh spent rests named fits some bound own others still takes hands goes m early;
-    goes_on = goes-on w t s hits limit lag fresh spent rests named fits some bound own others still takes hands goes m early;
+    drives = drives-one w t s hits limit lag stays fresh spent rests named fits some bound own others still takes hands goes m early;
+    goes_on = goes-on w t s hits limit lag stays fresh spent rests named fits some bound own others still takes hands goes m early;
   }

@@ -21,21 +21,21 @@ use Rattle.bus_model.specs.Course.{Course}
 use Rattle.bus_model.specs.Starts.{starts, has_items}
 use Rattle.bus_model.specs.Transmissions.{drives_on, station_drive, newest_drives, Transmission, is_command, with_drives, transmissions}
 use Rattle.bus_model.specs.Wire.{samples_on, shown, drivers}
-use Rattle.bus_model.specs.World.{Trace, drives_after, next_tick, ticks_on, drivers_in, is_done, run_is_over}
+use Rattle.bus_model.specs.World.{Trace, drives_after, next_tick, ticks_on, is_done}
 use Rattle.bus_law_line.specs.Senders.{IsSpent, LeftAlone}
 use Rattle.bus_law_line.proofs.Sent.{left-undriven, left-spent}
 use Rattle.bus_law_line.specs.Shown.{shown_of}
 use Rattle.bus_law_messages.proofs.Pausing.{on-quiet}
 use Rattle.bus_law_messages.proofs.Running.{quiet-pair}
-use Rattle.bus_law_messages.proofs.Sending.{place-silent, shown-long}
-use Rattle.bus_law_messages.proofs.LaterTicks.{trace-later}
+use Rattle.bus_law_messages.proofs.Sending.{place-silent}
 use Rattle.bus_law_stations.proofs.Resting.{rests-quiet}
 use Rattle.bus_law_stations.proofs.StillStation.{still-quiet}
 use Rattle.bus_law_table.proofs.Quiet.{quiet-bursts}
-use Rattle.bus_law_phases.specs.Scenarios.{Scenario, trace_at, shown_at, driven_at, commands_in, blocks_in, attempts_in}
+use Rattle.bus_law_phases.specs.Scenarios.{Scenario, trace_at, shown_at, driven_at, commands_in, blocks_in, attempts_in, drivers_at, is_over_at, StaysFrom}
 use Rattle.bus_law_phases.specs.Passages.{HoldsAlone, IsOrderly, Passage, nothing_happens}
 use Rattle.bus_law_phases.specs.Silences.{AllRest, IsQuiet, SomeoneIsBusy, GoesOnTo}
 use Rattle.bus_law_phases.proofs.Resting.{all-fewer, course-still, blocks-still, attempts-still}
+use Rattle.bus_law_phases.proofs.Staying.{long-at, ticks-later}
 
 -- ---- a tick in which every station is silent begins no transmission
 
@@ -132,20 +132,20 @@ pub drivers-few : (faults : List Fault) (c : Channel) (before driven : List (Lis
 drivers-few faults c before [] m many left = absurd (omega (arith, many))
 drivers-few faults c before (now ∷ silent) m many left = let none = left-undriven faults c before silent now left in omega (arith, none)
 
-module _ (w : Scenario) (t n : ℕ) (quiet : IsQuiet w (trace_at w t)) (rests : AllRest w (shown_at w t) n) (hands : HoldsAlone w (shown_at w t))
+module _ (w : Scenario) (t n : ℕ) (stays : StaysFrom w t) (quiet : IsQuiet w (trace_at w t)) (rests : AllRest w (shown_at w t) n) (hands : HoldsAlone w (shown_at w t))
     (goes : GoesOnTo w (shown_at w t) (t + n)) where
   abbrev past : List Pair
   past = shown_at w t
 
   long : length (shown_at w t) ≡ t
-  long = shown-long w.lag w.plan w.loads w.outside w.absent t
+  long = long-at w t stays
 
   ticks : (m : ℕ) → m ≤ n → QuietTicks w (trace_at w t) m
   ticks m few = quiet-for w (trace_at w t) n rests quiet.spent m few
 
   -- the trace after m of them
   later-is : (m : ℕ) (few : m ≤ n) → trace_at w (t + m) ≡ record { shown = quiet_pairs m ++ past; driven = (ticks m few).driven ++ driven_at w t }
-  later-is m few = sym (trace-later w.lag w.plan w.loads w.outside w.absent t m) ∙ (ticks m few).world
+  later-is m few = sym (ticks-later w t m stays) ∙ (ticks m few).world
 
   pub shown-is : (m : ℕ) → m ≤ n → shown_at w (t + m) ≡ quiet_pairs m ++ past
   shown-is m few = ap (λ (tr : Trace). tr.shown) (later-is m few)
@@ -171,7 +171,7 @@ module _ (w : Scenario) (t n : ℕ) (quiet : IsQuiet w (trace_at w t)) (rests : 
       (course-still w past m (all-fewer w past n m few rests) busy.place busy.station busy.at)
       ∙ busy.busy
 
-  over-not : (m : ℕ) → m < n → run_is_over w.lag w.plan w.loads w.outside w.absent (t + m) ≡ false
+  over-not : (m : ℕ) → m < n → is_over_at w (t + m) ≡ false
   over-not m few = elim goes [
     | inl busy ↦ (let early : m ≤ n = omega (arith, few) in
         let idle = still-busy m early busy in
@@ -191,7 +191,7 @@ module _ (w : Scenario) (t n : ℕ) (quiet : IsQuiet w (trace_at w t)) (rests : 
   next-tick m = omega arith
 
   -- nobody drives
-  drives-none : (m : ℕ) (few : m < n) (c : Channel) → drivers_in w.lag w.plan w.loads w.outside w.absent (t + m) c ≤ 1
+  drives-none : (m : ℕ) (few : m < n) (c : Channel) → drivers_at w (t + m) c ≤ 1
   drives-none m few c =
       let early : suc m ≤ n = omega (arith, few) in
       let q = ticks (suc m) early in

@@ -23,14 +23,13 @@ use Rattle.bus_model.specs.Terminal.{took_now}
 use Rattle.bus_model.specs.World.{is_present}
 use Rattle.bus_model.specs.WorldLog.{present_stations, ended_by}
 use Rattle.bus_law_control.proofs.Holding.{heard-nothing, yielded-before, kept-tick}
-use Rattle.bus_law_messages.proofs.Sending.{shown-long}
 use Rattle.bus_law_phases.proofs.Silenced.{Pending, silent_ending, nothing-due, course-ends, silenced-silent, silenced-course, end-kept}
 use Rattle.bus_law_stations.specs.Silence.{AwaitsFirst, AwaitsSecond}
 use Rattle.bus_law_stations.specs.Turns.{KeepsControl}
 use Rattle.bus_law_stations.proofs.StillStation.{always-taken}
 use Rattle.bus_law_table.specs.Stations.{HeardNothing}
 use Rattle.bus_law_table.proofs.Takes.{unheard-takes, unheard-on, unheard-alike}
-use Rattle.bus_law_phases.specs.Scenarios.{Scenario, trace_at, shown_at, course_of, hearing_of, IsPresentAt, NoneTakesFrom}
+use Rattle.bus_law_phases.specs.Scenarios.{Scenario, trace_at, shown_at, course_of, hearing_of, IsPresentAt, NoneTakesFrom, StaysFrom}
 use Rattle.bus_law_phases.specs.Passages.{HoldsAlone, Passage}
 use Rattle.bus_law_phases.specs.Silences.{IsQuiet, SomeoneIsBusy}
 use Rattle.bus_law_phases.specs.Moments.{IsHolder, IsAfter, Underway, LastsTo}
@@ -39,6 +38,7 @@ use Rattle.bus_law_phases.proofs.Pairs.{each-of, beside-with}
 use Rattle.bus_law_phases.proofs.SilencedBeside.{PassesQuietly, rests-passes, ends-none, ends-one, server-rests, server-then, beside-each, at-each}
 use Rattle.bus_law_phases.proofs.Spares.{one-gives}
 use Rattle.bus_law_phases.proofs.SilencedTick.{tick-trace, tick-shown, tick-quiet-from, tick-quiet, tick-fresh, tick-passes}
+use Rattle.bus_law_phases.proofs.Staying.{long-at}
 
 same-end : (k : ℕ) (begun : Begun) (past : List Sample) (e : ℕ) (waits : AwaitsFirst k begun past e ⊎ AwaitsSecond k begun past e) →
     silent_ending k begun past e waits ≡ unanswered k begun past e waits
@@ -135,7 +135,7 @@ module _ (w : Scenario) (past : List Pair) (holder : StationData) (begun : Begun
 
 module _ (w : Scenario) (t place : ℕ) (holder : StationData) (c : Channel) (e : ℕ) (part : Part) (afters : List After) (begun : Begun)
     (moment : Underway w (trace_at w t) place holder c e part afters) (awaits : AwaitsAnswer w (shown_at w t) holder begun e) (at : t ≡ e + no_response)
-    (lasts : All (LastsTo (suc t) e) afters) (stays : NoneTakesFrom w t) where
+    (lasts : All (LastsTo (suc t) e) afters) (stays : StaysFrom w t) where
   abbrev past : List Pair
   past = shown_at w t
 
@@ -143,7 +143,7 @@ module _ (w : Scenario) (t place : ℕ) (holder : StationData) (c : Channel) (e 
   end = unanswered w.lag begun (on_channel begun.state.channel past) e awaits.waits
 
   long : length (shown_at w t) ≡ t
-  long = shown-long w.lag w.plan w.loads w.outside w.absent t
+  long = long-at w t stays
 
   is-late : length (shown_at w t) ≡ e + no_response
   is-late = omega (arith, long, at)
@@ -152,7 +152,7 @@ module _ (w : Scenario) (t place : ℕ) (holder : StationData) (c : Channel) (e 
   lasts-here = let same : suc t ≡ length (shown_at w t) + 1 = omega (arith, long) in subst (λ u. All (LastsTo u e) afters) same lasts
 
   stays-here : NoneTakesFrom w (length (shown_at w t))
-  stays-here = subst (NoneTakesFrom w) (sym long) stays
+  stays-here = subst (NoneTakesFrom w) (sym long) stays.takes
 
   quiet : IsQuiet w (trace_at w t)
   quiet = record { rests = moment.rests; spent = moment.spent }
@@ -219,10 +219,10 @@ module _ (w : Scenario) (t place : ℕ) (holder : StationData) (c : Channel) (e 
 
   then-underway : Underway w (trace_at w (suc t)) place holder c e part afters
   then-underway =
-      let still = tick-quiet w t quiet silent in
-      subst (λ tr. Underway w tr place holder c e part afters) (sym (tick-trace w t quiet silent)) record {
+      let still = tick-quiet w t stays quiet silent in
+      subst (λ tr. Underway w tr place holder c e part afters) (sym (tick-trace w t stays quiet silent)) record {
         rests = still.rests;
-        fresh = tick-fresh w t quiet silent;
+        fresh = tick-fresh w t stays quiet silent;
         spent = still.spent;
         at = moment.at;
         holds = holder-holds w past holder begun e moment.holds awaits is-late;
@@ -240,10 +240,10 @@ module _ (w : Scenario) (t place : ℕ) (holder : StationData) (c : Channel) (e 
       × Passage w t (suc t) (attempt_ends holder begun end t)
   unfolding attempts
   without-response = (
-    tick-shown w t quiet silent,
+    tick-shown w t stays quiet silent,
     then-underway,
-    ap (course_of w holder) (tick-shown w t quiet silent) ∙ holder-closes w past holder begun e moment.holds awaits is-late
+    ap (course_of w holder) (tick-shown w t stays quiet silent) ∙ holder-closes w past holder begun e moment.holds awaits is-late
         ∙ ap (close (course_of w holder past) begun end) long,
-    tick-quiet-from w t quiet silent,
-    subst (λ n. Passage w t (suc t) (attempt_ends holder begun end n)) long (tick-passes w t quiet silent takes attempts ended hands (inl busy)),
+    tick-quiet-from w t stays quiet silent,
+    subst (λ n. Passage w t (suc t) (attempt_ends holder begun end n)) long (tick-passes w t stays quiet silent takes attempts ended hands (inl busy)),
   )

@@ -27,10 +27,9 @@ use Rattle.bus_model.specs.Starts.{Entry, usual, quiet_for, start_of}
 use Rattle.bus_model.specs.Strikes.{ShownBurst, burst_end}
 use Rattle.bus_law_phases.proofs.Awaiting.{awaits-quiet, second-quiet}
 use Rattle.bus_law_messages.proofs.Pausing.{on-quiet, from-quiet}
-use Rattle.bus_law_messages.proofs.Sending.{shown-long}
 use Rattle.bus_law_stations.specs.Silence.{AwaitsFirst, AwaitsSecond, NothingStarts}
 use Rattle.bus_law_table.specs.Stations.{IsNamedApart}
-use Rattle.bus_law_phases.specs.Scenarios.{Scenario, trace_at, shown_at, course_of, NoneTakesFrom}
+use Rattle.bus_law_phases.specs.Scenarios.{Scenario, trace_at, shown_at, course_of, StaysFrom}
 use Rattle.bus_law_phases.specs.Passages.{Passage, nothing_happens}
 use Rattle.bus_law_phases.specs.Silences.{GoesOnTo}
 use Rattle.bus_law_phases.specs.Moments.{DutyLasts, Underway, LastsTo}
@@ -42,6 +41,7 @@ use Rattle.bus_law_phases.proofs.SilencedEnd.{without-response}
 use Rattle.bus_law_phases.proofs.SilencedItems.{items-silence}
 use Rattle.bus_law_phases.proofs.SilencedMoments.{closed-rested}
 use Rattle.bus_law_phases.proofs.SilencedPromises.{promises-over}
+use Rattle.bus_law_phases.proofs.Staying.{long-later, stays-later}
 
 -- ---- what the table makes of silence where nobody promised
 
@@ -72,7 +72,7 @@ all-last u e (a ∷ afters) early none =
 -- from one tick to a later one
 lasting-to : (w : Scenario) (t u place : ℕ) (holder : StationData) (c : Channel) (e : ℕ) (part : Part) (afters : List After) → t ≤ u →
     Underway w (trace_at w t) place holder c e part afters → NothingStarts w.lag (course_of w holder (shown_at w t)) (shown_at w t) (u - t) →
-    All (LastsTo u e) afters → NoneTakesFrom w t → GoesOnTo w (shown_at w t) u →
+    All (LastsTo u e) afters → StaysFrom w t → GoesOnTo w (shown_at w t) u →
     (shown_at w u ≡ quiet_pairs (u - t) ++ shown_at w t) × Underway w (trace_at w u) place holder c e part afters
     × (course_of w holder (shown_at w u) ≡ course_of w holder (shown_at w t)) × Passage w t u nothing_happens
 lasting-to w t u place holder c e part afters later moment waits lasts stays goes =
@@ -121,7 +121,7 @@ closed-rests k c past n tick idle opens early = record {
 -- ---- the world
 
 module _ (w : Scenario) (t place : ℕ) (holder : StationData) (part : Part) (burst : ShownBurst) (afters : List After) (begun : Begun)
-    (apart : IsNamedApart w.plan place holder) (stays : NoneTakesFrom w t) (so : StaysUnanswered w t place holder part burst afters begun) where
+    (apart : IsNamedApart w.plan place holder) (stays : StaysFrom w t) (so : StaysUnanswered w t place holder part burst afters begun) where
   abbrev e : ℕ
   e = burst_end burst
 
@@ -137,11 +137,11 @@ module _ (w : Scenario) (t place : ℕ) (holder : StationData) (part : Part) (bu
   abbrev ended : Ended
   ended = unanswered w.lag begun (on_channel begun.state.channel (shown_at w t)) e so.awaits.waits
 
-  long : (u : ℕ) → length (shown_at w u) ≡ u
-  long u = shown-long w.lag w.plan w.loads w.outside w.absent u
+  long : (u : ℕ) → t ≤ u → length (shown_at w u) ≡ u
+  long u up = long-later w t u up stays
 
-  stays-from : (u : ℕ) → t ≤ u → NoneTakesFrom w u
-  stays-from u later other station at tick low = stays other station at tick (omega (arith, later, low))
+  stays-from : (u : ℕ) → t ≤ u → StaysFrom w u
+  stays-from u later = stays-later w t u later stays
 
   goes-to : (u v : ℕ) → quiet_from (shown_at w u) ≡ e → v ≤ e + ending_quiet → GoesOnTo w (shown_at w u) v
   goes-to u v quiet early = inr (omega (arith, quiet, early))
@@ -150,7 +150,7 @@ module _ (w : Scenario) (t place : ℕ) (holder : StationData) (part : Part) (bu
   waits : NothingStarts w.lag (course_of w holder (shown_at w t)) (shown_at w t) (closing - t)
   waits =
       let early = so.early in
-      let now : length (shown_at w t) ≡ t = long t in
+      let now : length (shown_at w t) ≡ t = long t (omega arith) in
       record {
         waits = λ other is. (
           e,
@@ -201,10 +201,10 @@ module _ (w : Scenario) (t place : ℕ) (holder : StationData) (part : Part) (bu
       )
 
   -- it starts nothing until the promises have run out
-  rests-for : (u n : ℕ) → quiet_from (shown_at w u) ≡ e → u + n ≤ e + settling_quiet → course_of w holder (shown_at w u) ≡ close before begun ended closing →
+  rests-for : (u n : ℕ) → t ≤ u → quiet_from (shown_at w u) ≡ e → u + n ≤ e + settling_quiet → course_of w holder (shown_at w u) ≡ close before begun ended closing →
       NothingStarts w.lag (course_of w holder (shown_at w u)) (shown_at w u) n
-  rests-for u n quiet early is =
-      let now = long u in
+  rests-for u n up quiet early is =
+      let now = long u up in
       closed-rests w.lag (course_of w holder (shown_at w u)) (shown_at w u) n (suc closing) (ap (λ (c : Course). c.runs) is)
       (ap (λ (c : Course). c.opening) is
       ∙ ending-opens w.lag begun (on_channel begun.state.channel (shown_at w t)) e closing before so.awaits.waits) (omega (arith, now, quiet, early))
@@ -215,7 +215,7 @@ module _ (w : Scenario) (t place : ℕ) (holder : StationData) (part : Part) (bu
   rested =
       let early = so.early in
       lasting-to w (suc closing) out place holder burst.channel e part afters (omega arith) closes-now.1
-      (rests-for (suc closing) (out - suc closing) closes-now.3 (omega arith) closes-now.2) (all-last out e afters (omega arith) so.unowed)
+      (rests-for (suc closing) (out - suc closing) (omega (arith, early)) closes-now.3 (omega arith) closes-now.2) (all-last out e afters (omega arith) so.unowed)
       (stays-from (suc closing) (omega (arith, early))) (goes-to (suc closing) out closes-now.3 (omega arith))
 
   quiet-out : quiet_from (shown_at w out) ≡ e
@@ -235,7 +235,7 @@ module _ (w : Scenario) (t place : ℕ) (holder : StationData) (part : Part) (bu
       × Passage w out (suc out) nothing_happens
   over =
       let early = so.early in
-      promises-over w out place holder burst e part afters rested.1 refl so.unowed (rests-for out 1 quiet-out (omega arith) closed-out)
+      promises-over w out place holder burst e part afters rested.1 refl so.unowed (rests-for out 1 (omega (arith, early)) quiet-out (omega arith) closed-out)
       (stays-from out (omega (arith, early))) (goes-to out (suc out) quiet-out (omega arith))
 
   closed-over : course_of w holder (shown_at w (suc out)) ≡ close before begun ended closing

@@ -18,12 +18,11 @@ use Rattle.bus_model.specs.Starts.{starts}
 use Rattle.bus_model.specs.Strikes.{ShownBurst}
 use Rattle.bus_model.specs.WorldLog.{present_stations, ended_by}
 use Rattle.bus_law_messages.proofs.Pausing.{serving-still}
-use Rattle.bus_law_messages.proofs.Sending.{shown-long}
 use Rattle.bus_law_stations.specs.Silence.{NothingStarts, StationRests}
 use Rattle.bus_law_table.specs.Stations.{loaded_at}
 use Rattle.bus_law_table.proofs.Still.{rests-told, serving-rests}
 use Rattle.bus_law_phases.specs.Pairing.{Beside}
-use Rattle.bus_law_phases.specs.Scenarios.{Scenario, trace_at, shown_at, course_of, present_of, IsPresentAt, NoneTakesFrom}
+use Rattle.bus_law_phases.specs.Scenarios.{Scenario, trace_at, shown_at, course_of, present_of, IsPresentAt, NoneTakesFrom, StaysFrom}
 use Rattle.bus_law_phases.specs.Passages.{HoldsAlone, Passage, nothing_happens}
 use Rattle.bus_law_phases.specs.Silences.{IsQuiet, GoesOnTo}
 use Rattle.bus_law_phases.specs.Moments.{HasDuty, IsHolder, IsServer, IsAfter, Underway}
@@ -34,6 +33,7 @@ use Rattle.bus_law_phases.proofs.SilencedTick.{AllSilent, tick-trace, tick-shown
 use Rattle.bus_law_phases.proofs.SilencedUnkept.{out-passes, out-serving, out-told}
 use Rattle.bus_law_phases.proofs.SilencedUnmoved.{pairs-none}
 use Rattle.bus_law_phases.proofs.Unheard.{holder-rests}
+use Rattle.bus_law_phases.proofs.Staying.{long-at}
 
 -- ---- the table
 
@@ -92,7 +92,7 @@ module _ (w : Scenario) (past : List Pair) (burst : ShownBurst) (e : ℕ) (part 
 module _ (w : Scenario) (t place : ℕ) (holder : StationData) (burst : ShownBurst) (e : ℕ) (part : Part) (afters : List After)
     (moment : Underway w (trace_at w t) place holder burst.channel e part afters) (at : t ≡ e + relay_wait)
     (none : All (λ after. is_owed after.duty ≡ false) afters)
-    (waits : NothingStarts w.lag (course_of w holder (shown_at w t)) (shown_at w t) 1) (stays : NoneTakesFrom w t)
+    (waits : NothingStarts w.lag (course_of w holder (shown_at w t)) (shown_at w t) 1) (stays : StaysFrom w t)
     (goes : GoesOnTo w (shown_at w t) (suc t)) where
   abbrev past : List Pair
   past = shown_at w t
@@ -101,13 +101,13 @@ module _ (w : Scenario) (t place : ℕ) (holder : StationData) (burst : ShownBur
   settled after = after_silence w.lag w.loads burst after
 
   long : length (shown_at w t) ≡ t
-  long = shown-long w.lag w.plan w.loads w.outside w.absent t
+  long = long-at w t stays
 
   is-late : length (shown_at w t) ≡ e + relay_wait
   is-late = omega (arith, long, at)
 
   stays-here : NoneTakesFrom w (length (shown_at w t))
-  stays-here = subst (NoneTakesFrom w) (sym long) stays
+  stays-here = subst (NoneTakesFrom w) (sym long) stays.takes
 
   quiet : IsQuiet w (trace_at w t)
   quiet = record { rests = moment.rests; spent = moment.spent }
@@ -169,10 +169,10 @@ module _ (w : Scenario) (t place : ℕ) (holder : StationData) (burst : ShownBur
 
   then-underway : Underway w (trace_at w (suc t)) place holder burst.channel e part (map settled afters)
   then-underway =
-      let still = tick-quiet w t quiet silent in
-      subst (λ tr. Underway w tr place holder burst.channel e part (map settled afters)) (sym (tick-trace w t quiet silent)) record {
+      let still = tick-quiet w t stays quiet silent in
+      subst (λ tr. Underway w tr place holder burst.channel e part (map settled afters)) (sym (tick-trace w t stays quiet silent)) record {
         rests = still.rests;
-        fresh = tick-fresh w t quiet silent;
+        fresh = tick-fresh w t stays quiet silent;
         spent = still.spent;
         at = moment.at;
         holds = ap (λ (d : Course). d.holds) (passes place holder moment.at).course ∙ moment.holds;
@@ -195,10 +195,10 @@ module _ (w : Scenario) (t place : ℕ) (holder : StationData) (burst : ShownBur
       × (course_of w holder (shown_at w (suc t)) ≡ course_of w holder past) × (quiet_from (shown_at w (suc t)) ≡ quiet_from past)
       × Passage w t (suc t) nothing_happens
   promises-over = (
-    tick-shown w t quiet silent,
+    tick-shown w t stays quiet silent,
     then-underway,
     all-silence w burst (λ duty. duty ≡ free) afters refl none,
-    ap (course_of w holder) (tick-shown w t quiet silent) ∙ (passes place holder moment.at).course,
-    tick-quiet-from w t quiet silent,
-    tick-passes w t quiet silent (λ other station here. (passes other station here).takes) [] ended hands goes,
+    ap (course_of w holder) (tick-shown w t stays quiet silent) ∙ (passes place holder moment.at).course,
+    tick-quiet-from w t stays quiet silent,
+    tick-passes w t stays quiet silent (λ other station here. (passes other station here).takes) [] ended hands goes,
   )

@@ -13,14 +13,12 @@ use Rattle.bus_model.specs.World.{Trace}
 use Rattle.bus_model.specs.WorldLog.{present_stations}
 use Rattle.bus_law_messages.specs.Settled.{NoneStarts}
 use Rattle.bus_law_messages.proofs.Pausing.{nothing-starts, serving-still, from-quiet}
-use Rattle.bus_law_messages.proofs.Sending.{shown-long}
-use Rattle.bus_law_messages.proofs.LaterTicks.{trace-later}
 use Rattle.bus_law_stations.specs.Silence.{StationRests}
 use Rattle.bus_law_stations.proofs.StillStation.{still-after}
 use Rattle.bus_law_table.specs.Stations.{loaded_at, ArePresent}
 use Rattle.bus_law_table.proofs.Pairing.{beside, beside-map}
 use Rattle.bus_law_table.proofs.Still.{rests-told, serving-rests}
-use Rattle.bus_law_phases.specs.Scenarios.{Scenario, trace_at, shown_at, driven_at, course_of, present_of, NoneTakesFrom}
+use Rattle.bus_law_phases.specs.Scenarios.{Scenario, trace_at, shown_at, driven_at, course_of, present_of, NoneTakesFrom, StaysFrom}
 use Rattle.bus_law_phases.specs.Passages.{HoldsAlone, Passage, nothing_happens}
 use Rattle.bus_law_phases.specs.Silences.{AllRest, IsQuiet, GoesOnTo}
 use Rattle.bus_law_phases.specs.Rests.{Rested}
@@ -28,6 +26,7 @@ use Rattle.bus_law_phases.proofs.Lasting.{fresh-later}
 use Rattle.bus_law_phases.proofs.Resting.{each-present}
 use Rattle.bus_law_phases.proofs.Silence.{QuietTicks, quiet-for, silence}
 use Rattle.bus_law_phases.proofs.Unheard.{holder-rests}
+use Rattle.bus_law_phases.proofs.Staying.{long-at, ticks-later}
 
 -- ---- nothing is due of any station
 
@@ -77,12 +76,12 @@ module _ (w : Scenario) (now : Trace) (place : ℕ) (holder : StationData) (stat
 -- ---- the moment afterwards
 
 module _ (w : Scenario) (t n place : ℕ) (holder : StationData) (stations : List Present) (moment : Rested w (trace_at w t) place holder stations)
-    (none : NoneStarts (course_of w holder (shown_at w t)) (shown_at w t) n) (stays : NoneTakesFrom w t) (goes : GoesOnTo w (shown_at w t) (t + n)) where
+    (none : NoneStarts (course_of w holder (shown_at w t)) (shown_at w t) n) (stays : StaysFrom w t) (goes : GoesOnTo w (shown_at w t) (t + n)) where
   long : length (shown_at w t) ≡ t
-  long = shown-long w.lag w.plan w.loads w.outside w.absent t
+  long = long-at w t stays
 
   stays-here : NoneTakesFrom w (length (shown_at w t))
-  stays-here = subst (NoneTakesFrom w) (sym long) stays
+  stays-here = subst (NoneTakesFrom w) (sym long) stays.takes
 
   rests : AllRest w (shown_at w t) n
   rests = rested-rests w (trace_at w t) place holder stations moment n none stays-here
@@ -91,7 +90,7 @@ module _ (w : Scenario) (t n place : ℕ) (holder : StationData) (stations : Lis
   ticks = quiet-for w (trace_at w t) n rests moment.spent n (omega arith)
 
   later-trace : trace_at w (t + n) ≡ record { shown = quiet_pairs n ++ shown_at w t; driven = ticks.driven ++ driven_at w t }
-  later-trace = sym (trace-later w.lag w.plan w.loads w.outside w.absent t n) ∙ ticks.world
+  later-trace = sym (ticks-later w t n stays) ∙ ticks.world
 
   course-then : course_of w holder (quiet_pairs n ++ shown_at w t) ≡ course_of w holder (shown_at w t)
   course-then = still-after w.lag holder (starts w.plan holder) w.loads w.outside (shown_at w t) n (rests place holder moment.at)
@@ -115,7 +114,7 @@ module _ (w : Scenario) (t n place : ℕ) (holder : StationData) (stations : Lis
       × (course_of w holder (shown_at w (t + n)) ≡ course_of w holder (shown_at w t)) × (quiet_from (shown_at w (t + n)) ≡ quiet_from (shown_at w t))
       × Passage w t (t + n) nothing_happens
   rest-lasts =
-      let still = silence w t n record { rests = moment.rests; spent = moment.spent } rests
+      let still = silence w t n stays record { rests = moment.rests; spent = moment.spent } rests
       (rested-alone w (trace_at w t) place holder stations moment) goes in (
         still.0,
         subst (λ tr. Rested w tr place holder stations) (sym later-trace) (then-rested (subst (IsQuiet w) later-trace still.1)),

@@ -8,6 +8,7 @@ use Rattle.bus_formats.specs.Accepted.{IsAccepted, addresses}
 use Rattle.bus_formats.specs.Plans.{StationData, PlanData}
 use Rattle.bus_model.specs.Run.{first_present}
 use Rattle.bus_model.specs.Starts.{starts}
+use Rattle.bus_model.specs.World.{ticks_on}
 use Rattle.bus_model.specs.WorldLog.{present_stations}
 use Rattle.bus_law_messages.specs.Settled.{Settled}
 use Rattle.bus_law_messages.proofs.Beginning.{begins-settled}
@@ -15,7 +16,7 @@ use Rattle.bus_law_plans.proofs.Stations.{Apart, apart-from}
 use Rattle.bus_law_table.specs.Stations.{IsNamedApart}
 use Rattle.bus_law_table.proofs.Pairing.{Each}
 use Rattle.bus_law_table.proofs.Paused.{first-present}
-use Rattle.bus_law_phases.specs.Scenarios.{Scenario, trace_at, IsPresentAt}
+use Rattle.bus_law_phases.specs.Scenarios.{Scenario, no_ticks, trace_at, IsPresentAt}
 use Rattle.bus_law_phases.specs.Rests.{Rested}
 
 -- ---- no two stations of an accepted plan have one address
@@ -47,14 +48,15 @@ named-apart plan accepted place station there other at here apart =
 -- ---- the world before the first tick
 
 pub begins-rested : (w : Scenario) (place : ℕ) (holder : StationData) → IsAccepted w.plan → IsPresentAt w place holder → starts w.plan holder ≡ true →
-    Rested w (trace_at w 0) place holder (map (first_present w.plan) (present_stations w.lag w.plan w.loads w.outside w.absent))
-begins-rested w place holder accepted at on =
+    trace_at w 0 ≡ no_ticks → Rested w (trace_at w 0) place holder (map (first_present w.plan) (present_stations w.lag w.plan w.loads w.outside w.absent))
+unfolding ticks_on
+begins-rested w place holder accepted at on none =
     let first : holder.terminal.address ≡ w.plan.start = grind (arith, nat_tests, on) in
-    let settled : Settled w.lag w.plan w.loads w.outside w.absent (trace_at w 0) place holder =
+    let settled : Settled w.lag w.plan w.loads w.outside w.absent no_ticks place holder =
     begins-settled w.lag w.plan w.loads w.outside w.absent place holder at.there at.present on
     (λ other station there apart.
     ne_eqb station.terminal.address w.plan.start (λ e. named-apart w.plan accepted place holder at.there other station there apart (e ∙ sym first))) in
-    record {
+    subst (λ tr. Rested w tr place holder (map (first_present w.plan) (present_stations w.lag w.plan w.loads w.outside w.absent))) (sym none) record {
       rests = settled.rests;
       fresh = λ d station. rw (settled.undriven d station) refl;
       spent = settled.spent;

@@ -21,24 +21,25 @@ use Rattle.bus_model.specs.Starts.{starts}
 use Rattle.bus_model.specs.Terminal.{took_now}
 use Rattle.bus_model.specs.Transmissions.{drives_on, station_drive, newest_drives, is_command, transmissions}
 use Rattle.bus_model.specs.Wire.{shown, drivers}
-use Rattle.bus_model.specs.World.{Trace, drives_after, ticks_on, is_done, run_is_over}
+use Rattle.bus_model.specs.World.{Trace, drives_after, is_done}
 use Rattle.bus_model.specs.WorldLog.{present_stations, ended_by, attempts}
 use Rattle.bus_law_line.specs.Senders.{LeftAlone}
 use Rattle.bus_law_line.proofs.Sent.{left-spent}
 use Rattle.bus_law_messages.proofs.Pausing.{from-quiet}
 use Rattle.bus_law_messages.proofs.Running.{quiet-pair}
-use Rattle.bus_law_messages.proofs.Sending.{place-silent, shown-long}
+use Rattle.bus_law_messages.proofs.Sending.{place-silent}
 use Rattle.bus_law_parts.specs.Parts.{IsFresh}
 use Rattle.bus_law_stations.proofs.Resting.{rests-quiet}
 use Rattle.bus_law_messages.proofs.Pausing.{on-quiet}
 use Rattle.bus_law_table.specs.Happened.{block_at, took_in, blocks_in as blocks_now, blocks_found}
 use Rattle.bus_law_table.proofs.Pairing.{none-each}
 use Rattle.bus_law_table.proofs.Quiet.{quiet-bursts}
-use Rattle.bus_law_phases.specs.Scenarios.{Scenario, trace_at, shown_at, driven_at, hearing_of, standing_of, blocks_in, attempts_in, commands_in, IsPresentAt}
+use Rattle.bus_law_phases.specs.Scenarios.{Scenario, trace_at, shown_at, driven_at, hearing_of, standing_of, blocks_in, attempts_in, commands_in, IsPresentAt, is_over_at, StaysFrom}
 use Rattle.bus_law_phases.specs.Passages.{HoldsAlone, IsOrderly, Passage}
 use Rattle.bus_law_phases.specs.Silences.{IsQuiet, GoesOnTo}
 use Rattle.bus_law_phases.proofs.Resting.{each-present}
 use Rattle.bus_law_phases.proofs.Silence.{with-silent, quiet-shown, quiet-within, and-false, not-all, drivers-few}
+use Rattle.bus_law_phases.proofs.Staying.{long-at}
 
 -- every station that is present is silent in the tick to come
 abbrev pub AllSilent : Scenario → List Pair → Type 0
@@ -52,8 +53,8 @@ NoneTakesBlocks w past =
     took_now w.lag station.terminal w.loads (hearing_of w station (quiet_pair ∷ past)) ≡ None
 
 -- the run isn't over where a station is busy, or the channels were quiet for too short a time
-pub over-not-now : (w : Scenario) (t : ℕ) → GoesOnTo w (shown_at w t) (suc t) → run_is_over w.lag w.plan w.loads w.outside w.absent t ≡ false
-over-not-now w t goes = elim goes [
+pub over-not-now : (w : Scenario) (t : ℕ) → length (shown_at w t) ≡ t → GoesOnTo w (shown_at w t) (suc t) → is_over_at w t ≡ false
+over-not-now w t long goes = elim goes [
   | inl busy ↦ (let past = shown_at w t in
       let present = busy.at.present in
       let idle = busy.busy in
@@ -62,7 +63,6 @@ over-not-now w t goes = elim goes [
       not-all (is_done w.lag w.plan w.loads w.outside w.absent past) w.plan.stations busy.place busy.station busy.at.there fails in
       rw none (and-false (nat_le ending_quiet (quiet_both past))))
   | inr bound ↦ (let past = shown_at w t in
-      let long : length past ≡ t = shown-long w.lag w.plan w.loads w.outside w.absent t in
       let within : quiet_both past ≤ length past = quiet-within past in
       let low : nat_le ending_quiet (quiet_both past) ≡ false = grind (arith, nat_tests, within, long, bound) in
       rw low refl)
@@ -111,7 +111,7 @@ module _ (w : Scenario) (t : ℕ) (shows : shown_at w (suc t) ≡ quiet_pair ∷
 
 -- ---- a tick in which every station is silent
 
-module _ (w : Scenario) (t : ℕ) (quiet : IsQuiet w (trace_at w t)) (silent : AllSilent w (shown_at w t)) where
+module _ (w : Scenario) (t : ℕ) (stays : StaysFrom w t) (quiet : IsQuiet w (trace_at w t)) (silent : AllSilent w (shown_at w t)) where
   abbrev past : List Pair
   past = shown_at w t
 
@@ -133,8 +133,7 @@ module _ (w : Scenario) (t : ℕ) (quiet : IsQuiet w (trace_at w t)) (silent : A
 
   -- the trace afterwards
   pub tick-trace : trace_at w (suc t) ≡ record { shown = quiet_pair ∷ past; driven = now ∷ driven_at w t }
-  unfolding ticks_on
-  tick-trace = ap (λ x. record { shown = x ∷ past; driven = now ∷ driven_at w t }) shows
+  tick-trace = stays.next t (omega arith) ∙ ap (λ x. record { shown = x ∷ past; driven = now ∷ driven_at w t }) shows
 
   pub tick-shown : shown_at w (suc t) ≡ quiet_pair ∷ past
   tick-shown = ap (λ (tr : Trace). tr.shown) tick-trace
@@ -168,7 +167,7 @@ module _ (w : Scenario) (t : ℕ) (quiet : IsQuiet w (trace_at w t)) (silent : A
     orderly = record {
       alone = λ c. subst (λ (tr : Trace). drivers w.plan.faults c tr.driven ≤ 1) (sym tick-trace) (drives-few c);
       hands = inl (subst (HoldsAlone w) (sym tick-shown) hands);
-      goes_on = over-not-now w t goes;
+      goes_on = over-not-now w t (long-at w t stays) goes;
     }
 
     pub tick-passes : Passage w t (suc t) record { blocks = []; bursts = []; attempts = ended; commands = 0 }

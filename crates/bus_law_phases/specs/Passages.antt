@@ -9,9 +9,8 @@ use Rattle.bus_model.specs.Control.{doubts, takes_control}
 use Rattle.bus_model.specs.Message.{Delivered}
 use Rattle.bus_model.specs.Starts.{starts}
 use Rattle.bus_model.specs.Strikes.{ShownBurst}
-use Rattle.bus_model.specs.World.{drivers_in, run_is_over}
 use Rattle.bus_law_table.specs.Happened.{burst_found}
-use Rattle.bus_law_phases.specs.Scenarios.{Scenario, course_of, IsPresentAt, shown_at, driven_at, blocks_in, attempts_in, commands_in}
+use Rattle.bus_law_phases.specs.Scenarios.{Scenario, course_of, IsPresentAt, shown_at, driven_at, blocks_in, attempts_in, commands_in, drivers_at, is_over_at}
 
 -- ---- control (dynamic bus control, MIL-STD-1553B 4.3.3.5.1.7.1)
 
@@ -45,9 +44,9 @@ InOneHand w past = HoldsAlone w past ⊎ HoldsInDoubt w past
 
 -- tick i is in order: at most one station drives each channel, control is in one hand after it, and the run isn't over before it
 pub record IsOrderly (w : Scenario) (i : ℕ) : Type 0 where
-  pub alone : (c : Channel) → drivers_in w.lag w.plan w.loads w.outside w.absent i c ≤ 1
+  pub alone : (c : Channel) → drivers_at w i c ≤ 1
   pub hands : InOneHand w (shown_at w (suc i))
-  pub goes_on : run_is_over w.lag w.plan w.loads w.outside w.absent i ≡ false
+  pub goes_on : is_over_at w i ≡ false
 
 -- ---- from a tick to a later one
 

@@ -21,7 +21,7 @@ ghost use Rattle.bus_model.specs.Endings.{abandoned_at};
 ghost use Rattle.bus_model.specs.Message.{After};
 ghost use Rattle.bus_model.specs.Strikes.{ShownBurst, burst_end, ShownAnswer};
 ghost use Rattle.bus_law_stations.specs.Silence.{AwaitsFirst, AwaitsSecond};
-ghost use Rattle.bus_law_phases.specs.Scenarios.{Scenario, shown_at, course_of, NoneTakesFrom};
+ghost use Rattle.bus_law_phases.specs.Scenarios.{Scenario, shown_at, course_of, StaysFrom};
 ghost use Rattle.bus_law_phases.specs.Answers.{AnswerBegins, burst_read, ShowsWhole, HoldsBeside, WaitsToRead, RestsBeside, attempts_ended, AnswerOver, HoldsBesideShown, BeginsAt, MayAbandon};
 ghost use Rattle.bus_law_phases.specs.Commands.{attempt_recorded};
 
@@ -30,7 +30,7 @@ ghost use Rattle.bus_law_phases.specs.Commands.{attempt_recorded};
 /// At lag 3, for any loads, with any stations absent.
 pub fn an_answer_is_sent()
     ensures { (w : Scenario) (t place : ℕ) (holder : StationData) (part : Part) (burst : ShownBurst) (afters : List After) (answer : ShownAnswer)
-        (later : Course) → w.lag ≡ 3 → IsAccepted w.plan → NoneTakesFrom w t → AnswerBegins w t place holder part burst afters answer →
+        (later : Course) → w.lag ≡ 3 → IsAccepted w.plan → StaysFrom w t → AnswerBegins w t place holder part burst afters answer →
         HoldsBeside w (shown_at w t) holder burst.channel (burst_read answer.burst) later →
         AnswerOver w t (burst_end answer.burst + suc w.lag) place holder burst afters answer.burst later }
 {}
@@ -77,7 +77,7 @@ pub fn an_attempt_ends_with_its_answer()
 /// So it is where the station in control might abandon the answer: what it does may depend on which samples of it were shown so far.
 pub fn an_answer_is_sent_to_a_station_that_might_abandon_it()
     ensures sent { (w : Scenario) (t place : ℕ) (holder : StationData) (part : Part) (burst : ShownBurst) (afters : List After) (answer : ShownAnswer)
-        (later : Course) → w.lag ≡ 3 → IsAccepted w.plan → NoneTakesFrom w t → AnswerBegins w t place holder part burst afters answer →
+        (later : Course) → w.lag ≡ 3 → IsAccepted w.plan → StaysFrom w t → AnswerBegins w t place holder part burst afters answer →
         HoldsBesideShown w (shown_at w t) holder burst.channel answer.hits answer.sent.words (burst_read answer.burst) later →
         AnswerOver w t (burst_end answer.burst + suc w.lag) place holder burst afters answer.burst later }
     ensures begins { (w : Scenario) (t place : ℕ) (holder : StationData) (part : Part) (burst : ShownBurst) (afters : List After) (answer : ShownAnswer) →

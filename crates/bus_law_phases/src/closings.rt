@@ -18,7 +18,7 @@ ghost use Rattle.bus_model.specs.Strikes.{ShownBurst, burst_end};
 ghost use Rattle.bus_model.specs.World.{Trace};
 ghost use Rattle.bus_law_stations.specs.Silence.{NothingStarts};
 ghost use Rattle.bus_law_table.specs.Stations.{IsNamedApart};
-ghost use Rattle.bus_law_phases.specs.Scenarios.{Scenario, trace_at, shown_at, course_of, NoneTakesFrom};
+ghost use Rattle.bus_law_phases.specs.Scenarios.{Scenario, trace_at, shown_at, course_of, StaysFrom};
 ghost use Rattle.bus_law_phases.specs.Passages.{Passage, nothing_happens};
 ghost use Rattle.bus_law_phases.specs.Silences.{GoesOnTo};
 ghost use Rattle.bus_law_phases.specs.Moments.{Underway, LastsTo};
@@ -31,7 +31,7 @@ ghost use Rattle.bus_law_phases.specs.Closings.{AwaitsAnswer, unanswered, StaysU
 pub fn a_message_ends_without_response()
     ensures { (w : Scenario) (t place : ℕ) (holder : StationData) (c : Channel) (e : ℕ) (part : Part) (afters : List After) (begun : Begun) →
         Underway w (trace_at w t) place holder c e part afters → (awaits : AwaitsAnswer w (shown_at w t) holder begun e) → t ≡ e + no_response →
-        All (LastsTo (suc t) e) afters → NoneTakesFrom w t →
+        All (LastsTo (suc t) e) afters → StaysFrom w t →
         let ended = unanswered w.lag begun (on_channel begun.state.channel (shown_at w t)) e awaits.waits in
         (shown_at w (suc t) ≡ quiet_pair ∷ shown_at w t) × Underway w (trace_at w (suc t)) place holder c e part afters
         × (course_of w holder (shown_at w (suc t)) ≡ close (course_of w holder (shown_at w t)) begun ended t)
@@ -42,7 +42,7 @@ pub fn a_message_ends_without_response()
 /// between two messages, and nothing came to pass but that its attempt ended. At every lag, for any loads, with any stations absent.
 pub fn a_message_without_response_is_over()
     ensures over { (w : Scenario) (t place : ℕ) (holder : StationData) (part : Part) (burst : ShownBurst) (afters : List After) (begun : Begun) →
-        IsNamedApart w.plan place holder → NoneTakesFrom w t → (so : StaysUnanswered w t place holder part burst afters begun) →
+        IsNamedApart w.plan place holder → StaysFrom w t → (so : StaysUnanswered w t place holder part burst afters begun) →
         let ended = unanswered w.lag begun (on_channel begun.state.channel (shown_at w t)) (burst_end burst) so.awaits.waits in
         let over = suc (burst_end burst + relay_wait) in
         Rested w (trace_at w over) place holder (stations_closed holder begun ended (map (after_silence w.lag w.loads burst) afters))
@@ -59,7 +59,7 @@ pub fn promises_run_out()
     ensures { (w : Scenario) (t place : ℕ) (holder : StationData) (burst : ShownBurst) (e : ℕ) (part : Part) (afters : List After) →
         Underway w (trace_at w t) place holder burst.channel e part afters → t ≡ e + relay_wait →
         All (λ after. is_owed after.duty ≡ false) afters → NothingStarts w.lag (course_of w holder (shown_at w t)) (shown_at w t) 1 →
-        NoneTakesFrom w t → GoesOnTo w (shown_at w t) (suc t) →
+        StaysFrom w t → GoesOnTo w (shown_at w t) (suc t) →
         let settled : List After = map (after_silence w.lag w.loads burst) afters in
         (shown_at w (suc t) ≡ quiet_pair ∷ shown_at w t) × Underway w (trace_at w (suc t)) place holder burst.channel e part settled
         × All (λ after. after.duty ≡ free) settled × (course_of w holder (shown_at w (suc t)) ≡ course_of w holder (shown_at w t))

@@ -8,7 +8,7 @@ ghost use Rattle.bus_model.specs.Starts.{Entry};
 ghost use Rattle.bus_law_duties.specs.Duties.{AreApart};
 ghost use Rattle.bus_law_phases.specs.Commands.{CommandPasses};
 ghost use Rattle.bus_law_phases.specs.Rests.{Rested};
-ghost use Rattle.bus_law_phases.specs.Scenarios.{Scenario, trace_at, shown_at, course_of, NoneTakesFrom};
+ghost use Rattle.bus_law_phases.specs.Scenarios.{Scenario, trace_at, shown_at, course_of, StaysFrom};
 ghost use Rattle.bus_law_stations.specs.Messages.{BeginsMessage};
 
 /// From a moment between two messages at which one begins, to that at which the end of its command is known: the command is sent alone, whatever
@@ -18,6 +18,6 @@ ghost use Rattle.bus_law_stations.specs.Messages.{BeginsMessage};
 pub fn a_command_passes()
     ensures { (w : Scenario) (t place : ℕ) (holder : StationData) (stations : List Present) (entry : Entry) → w.lag ≡ 3 → IsAccepted w.plan →
         HasItemRanges entry.item → Rested w (trace_at w t) place holder stations →
-        BeginsMessage (course_of w holder (shown_at w t)) (shown_at w t) entry → NoneTakesFrom w t → AreApart stations →
+        BeginsMessage (course_of w holder (shown_at w t)) (shown_at w t) entry → StaysFrom w t → AreApart stations →
         CommandPasses w t t holder entry place stations }
 {}

@@ -28,5 +28,7 @@ pub use closings::{
 pub use commands::a_command_passes;
 pub use moments::a_moment_lasts_in_silence;
 pub use mutes::{a_mute_answer_is_like_none, a_mute_answer_passes};
-pub use passages::{nothing_happens_in_silence, passages_follow_one_another};
+pub use passages::{
+    a_bus_stays_as_it_begins, nothing_happens_in_silence, passages_follow_one_another,
+};
 pub use rests::{a_moment_between_messages_lasts, the_world_begins_between_messages};

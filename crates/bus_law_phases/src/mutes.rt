@@ -14,7 +14,7 @@ ghost use Rattle.bus_model.specs.Orders.{due_after};
 ghost use Rattle.bus_model.specs.Standing.{is_owed};
 ghost use Rattle.bus_model.specs.Strikes.{ShownBurst, burst_end, Answer};
 ghost use Rattle.bus_law_stations.specs.Silence.{NothingStarts};
-ghost use Rattle.bus_law_phases.specs.Scenarios.{Scenario, trace_at, shown_at, course_of, NoneTakesFrom};
+ghost use Rattle.bus_law_phases.specs.Scenarios.{Scenario, trace_at, shown_at, course_of, StaysFrom};
 ghost use Rattle.bus_law_phases.specs.Passages.{Passage, nothing_happens};
 ghost use Rattle.bus_law_phases.specs.Silences.{GoesOnTo};
 ghost use Rattle.bus_law_phases.specs.Moments.{Underway};
@@ -25,7 +25,7 @@ ghost use Rattle.bus_law_phases.specs.Mutes.{IsMute, answered};
 /// absent.
 pub fn a_mute_answer_passes()
     ensures { (w : Scenario) (t place : ℕ) (holder : StationData) (part : Part) (burst : ShownBurst) (afters : List After) (answer : Answer) →
-        w.lag ≡ 3 → IsAccepted w.plan → NoneTakesFrom w t → IsMute w t place holder part burst afters answer →
+        w.lag ≡ 3 → IsAccepted w.plan → StaysFrom w t → IsMute w t place holder part burst afters answer →
         NothingStarts w.lag (course_of w holder (shown_at w t)) (shown_at w t) (suc w.lag) → GoesOnTo w (shown_at w t) (t + suc w.lag) →
         (shown_at w (t + suc w.lag) ≡ quiet_pairs (suc w.lag) ++ shown_at w t)
         × Underway w (trace_at w (t + suc w.lag)) place holder burst.channel (burst_end burst) part (map answered afters)

@@ -315,7 +315,7 @@ module _ (k : ℕ) (low : k < 24) (plan : PlanData) (accepted : IsAccepted plan)
   -- an attempt at the next item keeps the bounds
   pub message-bounds : KeepsBounds (with_message run begun choice this)
   message-bounds =
-      by-passing this.ending.passes refl (message-run k plan loads run begun choice accepted is)
+      by-passing this.ending.passes refl (message-run k plan loads plan.stations run begun choice (apart-from (addresses plan) accepted.apart) is)
 
 -- an attempt keeps the bounds
 pub attempt-bounds : (k : ℕ) (plan : PlanData) (loads : List TimedLoad) (run : Run) → k < 24 → IsAccepted plan → IsRunOf plan run → KeepsBounds run →

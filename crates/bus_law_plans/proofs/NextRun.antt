@@ -18,7 +18,7 @@ use Rattle.bus_model.specs.Memory.{TimedLoad}
 use Rattle.bus_model.specs.Message.{Present, address_of_station, Message, message}
 use Rattle.bus_model.specs.Run.{Run, Next, is_at, with_station, after_attempt, next_item, next_in, next_by, pass_control, with_message, next_attempt, attempt}
 use Rattle.bus_model.specs.Starts.{Entry, agenda, has_items, taking, opening_after}
-use Rattle.bus_law_plans.specs.Entries.{items_of, IsEntryOf, IsStationOf, AreStationsOf, IsRunOf}
+use Rattle.bus_law_plans.specs.Entries.{items_of, IsEntryOf, IsStationOf, AreStationsOf, IsRunOf, IsRunAmong}
 use Rattle.bus_law_plans.specs.Sent.{begun_of, message_of}
 use Rattle.bus_law_plans.proofs.Lists.{zip-weaker, zip-after, zip-second, either-by, same-number, drop-none}
 use Rattle.bus_law_plans.proofs.Messages.{IsKept, message-kept}
@@ -177,17 +177,17 @@ not-holder : (b : Bool) → not b ≡ true → b ≡ false
 not-holder true is = absurd (true≢false (sym is))
 not-holder false is = refl
 
-module _ (k : ℕ) (plan : PlanData) (loads : List TimedLoad) (run : Run) (begun : Begun) (choice : Choice) where
+module _ (k : ℕ) (plan : PlanData) (loads : List TimedLoad) (own : List StationData) (run : Run) (begun : Begun) (choice : Choice) where
   abbrev this : Message
   this = message k loads plan.faults (suc (length run.attempts)) begun.entry.item run.runs_on begun.state.channel begun.start run.stations
 
   abbrev left-stations : List Present
   left-stations = with_station run.holder (after_attempt begun this.ending.ended.outcome choice) this.stations
 
-  after-stations : IsRunOf plan run → AreStationsOf plan run.holder plan.stations left-stations
+  after-stations : IsRunAmong plan own run → AreStationsOf plan run.holder own left-stations
   after-stations is =
-      attempted plan choice begun this.ending.ended.outcome run.holder plan.stations this.stations
-      (kept-stations plan run.holder plan.stations run.stations this.stations is.stations
+      attempted plan choice begun this.ending.ended.outcome run.holder own this.stations
+      (kept-stations plan run.holder own run.stations this.stations is.stations
       (message-kept k loads plan.faults _ begun.entry.item run.runs_on begun.state.channel begun.start run.stations))
 
   abbrev given-stations : ℕ → List Present
@@ -208,47 +208,52 @@ module _ (k : ℕ) (plan : PlanData) (loads : List TimedLoad) (run : Run) (begun
       (stays-changed run.holder address (λ s. record s { serves = false }) (λ s at. (refl, λ other. refl))
       (with_station run.holder (λ s. record s { serves = true }) left-stations))))
 
-  by-passing : IsAccepted plan → IsRunOf plan run → (passes : Option Passing) → this.ending.passes ≡ passes →
+  by-passing : Apart (map (λ (s : StationData). s.terminal.address) own) → IsRunAmong plan own run → (passes : Option Passing) → this.ending.passes ≡ passes →
       (rest : Run) → rest.stations ≡ left-stations → rest.holder ≡ run.holder →
-      rest.opening ≡ opening_after this.ending.ended.outcome begun.state.channel this.ending.tick → IsRunOf plan (pass_control passes rest)
-  by-passing accepted is None none rest stations holder opening = record {
-    stations = subst (λ l. AreStationsOf plan rest.holder plan.stations l) (sym stations)
-        (subst (λ h. AreStationsOf plan h plan.stations left-stations) (sym holder) (after-stations is));
-    holder = subst (Contains (addresses plan)) (sym holder) is.holder;
+      rest.opening ≡ opening_after this.ending.ended.outcome begun.state.channel this.ending.tick → IsRunAmong plan own (pass_control passes rest)
+  by-passing named is None none rest stations holder opening = record {
+    stations = subst (λ l. AreStationsOf plan rest.holder own l) (sym stations)
+        (subst (λ h. AreStationsOf plan h own left-stations) (sym holder) (after-stations is));
+    holder = subst (Contains (map (λ (s : StationData). s.terminal.address) own)) (sym holder) is.holder;
     taken = λ tick takes. absurd (never-taking this.ending.ended.outcome begun.state.channel this.ending.tick tick (sym opening ∙ takes));
   }
-  by-passing accepted is (Some p) passes rest stations holder opening =
-      let same : map address_of_station run.stations ≡ addresses plan = stations-addresses plan run.holder plan.stations run.stations is.stations in
-      let apart : Apart (map address_of_station run.stations) = subst Apart (sym same) (apart-from (addresses plan) accepted.apart) in
+  by-passing named is (Some p) passes rest stations holder opening =
+      let same : map address_of_station run.stations ≡ map (λ (s : StationData). s.terminal.address) own = stations-addresses plan run.holder own run.stations is.stations in
+      let apart : Apart (map address_of_station run.stations) = subst Apart (sym same) named in
       let by = taken-by k loads plan.faults _ begun.entry.item run.runs_on begun.state.channel begun.start run.stations apart p passes in
       let other : is_at run.holder by.may.station ≡ false =
       not-holder (is_at run.holder by.may.station)
       (sym (found-each (λ s. s.serves ≡ not (is_at run.holder s)) p.address run.stations by.may.station
-      (serves-not plan run.holder plan.stations run.stations is.stations) by.may.found).0 ∙ by.may.serves) in
+      (serves-not plan run.holder own run.stations is.stations) by.may.found).0 ∙ by.may.serves) in
       let now : with_station p.address (λ s. record s { serves = false }) (with_station rest.holder (λ s. record s { serves = true }) rest.stations)
       ≡ given-stations p.address =
       ap (λ h. with_station p.address (λ s. record s { serves = false }) (with_station h (λ s. record s { serves = true }) rest.stations)) holder
       ∙ ap (λ l. with_station p.address (λ s. record s { serves = false }) (with_station run.holder (λ s. record s { serves = true }) l)) stations in
       record {
-        stations = subst (λ l. AreStationsOf plan p.address plan.stations l) (sym now)
-            (takes plan p.address plan.stations _ (gives plan run.holder plan.stations left-stations (after-stations is)));
+        stations = subst (λ l. AreStationsOf plan p.address own l) (sym now)
+            (takes plan p.address own _ (gives plan run.holder own left-stations (after-stations is)));
         holder = subst (λ l. Contains l p.address) same (contained p.address run.stations by.may.station by.may.found);
         taken = λ tick takes. subst (λ l. IsSome (next_by (find (is_at p.address) l))) (sym now)
             (taker-next run.holder p.address run.stations (given-stations p.address) by.may.station (given-stays p.address) by.may.found other by.may.left);
       }
 
   -- an attempt at the next item keeps the run one of its plan
-  pub message-run : IsAccepted plan → IsRunOf plan run → IsRunOf plan (with_message run begun choice this)
-  message-run accepted is = by-passing accepted is this.ending.passes refl _ refl refl refl
+  pub message-run : Apart (map (λ (s : StationData). s.terminal.address) own) → IsRunAmong plan own run → IsRunAmong plan own (with_message run begun choice this)
+  message-run named is = by-passing named is this.ending.passes refl _ refl refl refl
 
--- an attempt keeps the run one of its plan
-pub attempt-run : (k : ℕ) (plan : PlanData) (loads : List TimedLoad) (run : Run) → IsAccepted plan → IsRunOf plan run →
-    IsRunOf plan (attempt k loads plan.faults run)
-attempt-run k plan loads run accepted is = by-next (next_item run)
+-- an attempt keeps the run one by these stations
+pub attempt-among : (k : ℕ) (plan : PlanData) (loads : List TimedLoad) (own : List StationData) (run : Run) →
+    Apart (map (λ (s : StationData). s.terminal.address) own) → IsRunAmong plan own run → IsRunAmong plan own (attempt k loads plan.faults run)
+attempt-among k plan loads own run named is = by-next (next_item run)
   where
-    by-next : (next : Option Next) → IsRunOf plan (next_attempt k loads plan.faults run next)
+    by-next : (next : Option Next) → IsRunAmong plan own (next_attempt k loads plan.faults run next)
     by-next None = is
     by-next (Some next) =
         let begun : Begun = begun_of run next in
-        message-run k plan loads run begun
-        (next_of begun.entry.item begun.state (message_of k loads plan.faults run begun).ending.ended.outcome) accepted is
+        message-run k plan loads own run begun
+        (next_of begun.entry.item begun.state (message_of k loads plan.faults run begun).ending.ended.outcome) named is
+
+-- .. and one of its plan
+pub attempt-run : (k : ℕ) (plan : PlanData) (loads : List TimedLoad) (run : Run) → IsAccepted plan → IsRunOf plan run →
+    IsRunOf plan (attempt k loads plan.faults run)
+attempt-run k plan loads run accepted is = attempt-among k plan loads plan.stations run (apart-from (addresses plan) accepted.apart) is

@@ -7,7 +7,7 @@ use Rattle.bus_formats.specs.Plans.{StationData, PlanData}
 use Rattle.bus_model.specs.Message.{Present, address_of_station}
 use Rattle.bus_model.specs.Run.{Run, Next, is_at, next_item, next_in, next_by}
 use Rattle.bus_model.specs.Starts.{Entry}
-use Rattle.bus_law_plans.specs.Entries.{IsEntryOf, IsStationOf, IsRunOf}
+use Rattle.bus_law_plans.specs.Entries.{IsEntryOf, IsStationOf, IsRunAmong}
 pub use Rattle.bus_law_plans.specs.Entries.{IsNext}
 use Rattle.bus_law_plans.proofs.Lists.{same-number, zip-second}
 use Rattle.bus_law_plans.proofs.Stations.{found-each}
@@ -44,11 +44,11 @@ by-station plan run (Some s) next is h of at =
     }
 
 -- the next item is one of the station that holds control
-pub next-of : (plan : PlanData) (run : Run) (next : Next) → IsRunOf plan run → next_item run ≡ Some next → IsNext plan run next
-next-of plan run next is given =
+pub next-of : (plan : PlanData) (run : Run) (next : Next) {own : List StationData} → IsRunAmong plan own run → next_item run ≡ Some next → IsNext plan run next
+next-of plan run next {own = own} is given =
     let each : Each (OfPlan plan run.holder) run.stations =
     zip-second (λ (o : StationData) (t : Present). IsStationOf plan (not (o.terminal.address == run.holder)) o t) (OfPlan plan run.holder)
-    (λ o t h. record { own = o; is = h }) plan.stations run.stations is.stations in
+    (λ o t h. record { own = o; is = h }) own run.stations is.stations in
     by-station plan run (find (is_at run.holder) run.stations) next refl given
     (λ s found. (found-each (OfPlan plan run.holder) run.holder run.stations s each found).0)
     (λ s found. (found-each (OfPlan plan run.holder) run.holder run.stations s each found).1)

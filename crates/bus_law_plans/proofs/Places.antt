@@ -5,13 +5,13 @@ use Rattle.std.proofs.lemmas.Bool.Decides.{nat_tests}
 use Rattle.std.proofs.lemmas.Option.{none-some, same_Some}
 use Rattle.std.specs.Prelude.{not, find, slice_get, Contains, IfSome, IsSome, IsSomeAnd, ◌==◌}
 use Rattle.std.specs.List.{AllZip}
-use Rattle.bus_formats.specs.Accepted.{addresses, Supersedes}
+use Rattle.bus_formats.specs.Accepted.{Supersedes}
 use Rattle.bus_formats.specs.Plans.{StationData, PlanData}
 use Rattle.bus_model.specs.Message.{Present, address_of_station}
 use Rattle.bus_model.specs.Run.{Run, Next, is_at, next_item, next_in, next_by}
 use Rattle.bus_model.specs.Starts.{Entry, Opening, usual, superseding, taking}
 use Rattle.bus_model.specs.Strikes.{ShownAnswer}
-use Rattle.bus_law_plans.specs.Entries.{IsStationOf, IsRunOf, IsSupersededNext, KeepsSuperseding, IsFinished}
+use Rattle.bus_law_plans.specs.Entries.{IsStationOf, IsRunOf, IsSupersededNext, KeepsSuperseding, IsFinished, IsRunAmong}
 use Rattle.bus_law_plans.proofs.NextRun.{stations-addresses}
 use Rattle.bus_law_plans.proofs.Stations.{find-here, find-later}
 
@@ -47,9 +47,9 @@ find-contained address (s ∷ stations) (suc i) within at = elim (cases_Bool (is
 ]
 
 -- the station that holds control is there
-pub holder-found : (plan : PlanData) (run : Run) → IsRunOf plan run → (s : Present) × (find (is_at run.holder) run.stations ≡ Some s)
-holder-found plan run is =
-    let same : map address_of_station run.stations ≡ addresses plan = stations-addresses plan run.holder plan.stations run.stations is.stations in
+pub holder-found : (plan : PlanData) (run : Run) {own : List StationData} → IsRunAmong plan own run → (s : Present) × (find (is_at run.holder) run.stations ≡ Some s)
+holder-found plan run {own = own} is =
+    let same : map address_of_station run.stations ≡ map (λ (s : StationData). s.terminal.address) own = stations-addresses plan run.holder own run.stations is.stations in
     let there : Contains (map address_of_station run.stations) run.holder = subst (λ l. Contains l run.holder) (sym same) is.holder in
     find-contained run.holder run.stations there.0 there.1 there.2
 
@@ -63,7 +63,7 @@ no-answer : (run : Run) (o : Option ShownAnswer) → run.runs_on ≡ o → next_
 no-answer run None same none followed = same
 no-answer run (Some old) same none followed = absurd (subst (λ n. IsSomeAnd n (λ (m : Next). Supersedes old.sent.address m.entry.item.kind)) none followed.next)
 
-by-opening : (plan : PlanData) (run : Run) → IsRunOf plan run → KeepsSuperseding run → next_item run ≡ None → run.runs_on ≡ None → (o : Opening) → run.opening ≡ o →
+by-opening : (plan : PlanData) (run : Run) {own : List StationData} → IsRunAmong plan own run → KeepsSuperseding run → next_item run ≡ None → run.runs_on ≡ None → (o : Opening) → run.opening ≡ o →
     (need : ℕ) × (tick : ℕ) × (run.opening ≡ usual need tick)
 by-opening plan run is keeps none quiet (usual need tick) same = (need, tick, same)
 by-opening plan run is keeps none quiet (superseding tick channel) same =
@@ -71,7 +71,7 @@ by-opening plan run is keeps none quiet (superseding tick channel) same =
 by-opening plan run is keeps none quiet (taking tick) same = absurd (true≢false (sym (subst IsSome none (is.taken tick same))))
 
 -- a run without a next item is finished
-pub finished : (plan : PlanData) (run : Run) → IsRunOf plan run → KeepsSuperseding run → next_item run ≡ None → IsFinished run
+pub finished : (plan : PlanData) (run : Run) {own : List StationData} → IsRunAmong plan own run → KeepsSuperseding run → next_item run ≡ None → IsFinished run
 finished plan run is keeps none =
     let quiet : run.runs_on ≡ None = no-answer run run.runs_on refl none keeps.followed in
     let opening = by-opening plan run is keeps none quiet run.opening refl in

@@ -19,7 +19,7 @@ use Rattle.bus_model.specs.Message.{Present, address_of_station, After, unmoved,
 use Rattle.bus_model.specs.Orders.{Duty, free, owes, promises, Order, last_order}
 use Rattle.bus_model.specs.Run.{Run, Next, is_at, with_station, after_attempt, next_item, pass_control, with_message, next_attempt, attempt, first_run, first_present}
 use Rattle.bus_model.specs.Strikes.{hits_on, ShownBurst, burst_end, Answer, ShownAnswer}
-use Rattle.bus_law_plans.specs.Entries.{IsRunOf}
+use Rattle.bus_law_plans.specs.Entries.{IsRunOf, IsRunAmong}
 use Rattle.bus_law_plans.specs.Memories.{IsBlock, AreBlocks, HasMemoryRanges, HasWordRanges, KeepsWordRanges, HasAnswerRanges}
 use Rattle.bus_law_plans.specs.Sent.{begun_of, command_of, first_of, message_of}
 use Rattle.bus_law_plans.proofs.Answered.{IsAnswerOf, replied-by, shown-of}
@@ -168,7 +168,7 @@ passing-ranges (Some p) run all =
     changed-each p.address (λ s. record s { serves = false }) (λ s is. same-ranges s _ refl refl is) _
     (changed-each run.holder (λ s. record s { serves = true }) (λ s is. same-ranges s _ refl refl is) run.stations all)
 
-module _ (k : ℕ) (plan : PlanData) (loads : List TimedLoad) (run : Run) (is : IsRunOf plan run) (blocks : AreBlocks loads) (all : KeepsWordRanges run) where
+module _ (k : ℕ) (plan : PlanData) (loads : List TimedLoad) (run : Run) {own : List StationData} (is : IsRunAmong plan own run) (blocks : AreBlocks loads) (all : KeepsWordRanges run) where
   message-keeps : (begun : Begun) (choice : Choice) → HasItemRanges begun.entry.item → KeepsWordRanges (with_message run begun choice (message_of k loads plan.faults run begun))
   message-keeps begun choice ranges =
       passing-ranges (message_of k loads plan.faults run begun).ending.passes _
@@ -184,7 +184,7 @@ module _ (k : ℕ) (plan : PlanData) (loads : List TimedLoad) (run : Run) (is : 
       (next-of plan run next is given).entry.ranges
 
 -- an attempt keeps what is kept within its ranges
-pub attempt-ranges : (k : ℕ) (plan : PlanData) (loads : List TimedLoad) (run : Run) → AreBlocks loads → IsRunOf plan run → KeepsWordRanges run →
+pub attempt-ranges : (k : ℕ) (plan : PlanData) (loads : List TimedLoad) (run : Run) {own : List StationData} → AreBlocks loads → IsRunAmong plan own run → KeepsWordRanges run →
     KeepsWordRanges (attempt k loads plan.faults run)
 attempt-ranges k plan loads run blocks is all = by-next k plan loads run is blocks all (next_item run) refl
 

@@ -26,7 +26,7 @@ use Rattle.bus_model.specs.Message.{Present, address_of_station, Message, answer
 use Rattle.bus_model.specs.Run.{Run, Next, is_at, with_station, after_attempt, next_item, next_by, next_in, pass_control, with_message, next_attempt, attempt, attempts_after, first_run}
 use Rattle.bus_model.specs.Starts.{Entry, retry_by, superseding, opening_after}
 use Rattle.bus_model.specs.Strikes.{hits_on, struck, ShownBurst, Answer, ShownAnswer}
-use Rattle.bus_law_plans.specs.Entries.{items_of, IsRunOf, SupersedesOn, IsSupersededNext, KeepsSuperseding, IsNext}
+use Rattle.bus_law_plans.specs.Entries.{items_of, IsRunOf, SupersedesOn, IsSupersededNext, KeepsSuperseding, IsNext, IsRunAmong}
 use Rattle.bus_law_plans.specs.Sent.{begun_of, message_of}
 use Rattle.bus_law_plans.proofs.Answered.{IsAnswerOf, replied-by, IsShownOf, shown-of}
 use Rattle.bus_law_plans.proofs.EachRun.{each-run}
@@ -164,7 +164,7 @@ next-there : (s : Present) (left : List Entry) (next : Entry) (others : List Ent
     IsSomeAnd (next_in s left) (λ n. P n.entry)
 next-there s left next others P same h = subst (λ l. IsSomeAnd (next_in s l) (λ n. P n.entry)) (sym same) h
 
-module _ (k : ℕ) (plan : PlanData) (accepted : IsAccepted plan) (loads : List TimedLoad) (run : Run) (is : IsRunOf plan run) (next : Next)
+module _ (k : ℕ) (plan : PlanData) (accepted : IsAccepted plan) (loads : List TimedLoad) (run : Run) {own : List StationData} (is : IsRunAmong plan own run) (next : Next)
     (given : next_item run ≡ Some next) where
   abbrev begun : Begun
   begun = begun_of run next
@@ -244,7 +244,7 @@ module _ (k : ℕ) (plan : PlanData) (accepted : IsAccepted plan) (loads : List 
   message-superseded = by-passing this.ending.passes refl
 
 -- an attempt keeps it so
-pub attempt-superseded : (k : ℕ) (plan : PlanData) (loads : List TimedLoad) (run : Run) → IsAccepted plan → IsRunOf plan run → KeepsSuperseding run →
+pub attempt-superseded : (k : ℕ) (plan : PlanData) (loads : List TimedLoad) (run : Run) {own : List StationData} → IsAccepted plan → IsRunAmong plan own run → KeepsSuperseding run →
     KeepsSuperseding (attempt k loads plan.faults run)
 attempt-superseded k plan loads run accepted is keeps = by-next (next_item run) refl
   where

@@ -1,9 +1,9 @@
 -- What holds of the stations in each run of an accepted plan: what is left of their agendas, and who serves (the project's own).
-use Rattle.std.specs.Prelude.{◌≡◌, ℕ, Bool, not, ◌==◌, List, [], ◌∷◌, map, drop, find, Contains, Some, None, IfSome, IsSome, IsSomeAnd}
+use Rattle.std.specs.Prelude.{◌≡◌, ◌≢◌, ℕ, Bool, not, ◌==◌, List, [], ◌∷◌, map, drop, find, AllPairs, Contains, Some, None, IfSome, IsSome, IsSomeAnd}
 use Rattle.std.specs.List.{AllByRecursion as Each, AllZip}
 use Rattle.bus_base.specs.Samples.{other_of}
 use Rattle.bus_base.specs.declared.samples.Channel.{Channel}
-use Rattle.bus_formats.specs.Accepted.{HasItemRanges, IsSendable, Supersedes, HasSuperseding, addresses}
+use Rattle.bus_formats.specs.Accepted.{HasItemRanges, IsSendable, Supersedes, HasSuperseding}
 use Rattle.bus_formats.specs.Plans.{ItemData, StationData, PlanData}
 use Rattle.bus_model.specs.Message.{Present}
 use Rattle.bus_model.specs.Run.{Run, Next, is_at, next_item}
@@ -32,12 +32,20 @@ pub record IsStationOf (plan : PlanData) (serving : Bool) (own : StationData) (s
 abbrev pub AreStationsOf : PlanData → ℕ → List StationData → List Present → Type 0
 AreStationsOf plan holder own stations = AllZip (λ o s. IsStationOf plan (not (o.terminal.address == holder)) o s) own stations
 
--- the run is one of the plan: its stations are those of the plan in their order, the holder of control is one of them and the only one that doesn't
+-- the run is one by these stations of the plan: its stations are they in their order, the holder of control is one of them and the only one that doesn't
 -- serve, and whoever takes control has an item left
-pub record IsRunOf (plan : PlanData) (run : Run) : Type 0 where
-  pub stations : AreStationsOf plan run.holder plan.stations run.stations
-  pub holder : Contains (addresses plan) run.holder
+pub record IsRunAmong (plan : PlanData) (own : List StationData) (run : Run) : Type 0 where
+  pub stations : AreStationsOf plan run.holder own run.stations
+  pub holder : Contains (map (λ s. s.terminal.address) own) run.holder
   pub taken : (tick : ℕ) → run.opening ≡ taking tick → IsSome (next_item run)
+
+-- it is one by all stations of the plan
+abbrev pub IsRunOf : PlanData → Run → Type 0
+IsRunOf plan run = IsRunAmong plan plan.stations run
+
+-- no two of these stations have one address
+abbrev pub AreNamedApart : List StationData → Type 0
+AreNamedApart own = AllPairs (λ a b. a ≢ b) (map (λ s. s.terminal.address) own)
 
 -- the next item of a run is the first that is left of the station that holds control, which may send it
 pub record IsNext (plan : PlanData) (run : Run) (next : Next) : Type 0 where

@@ -2,12 +2,12 @@
 
 ghost use Rattle.std.specs.Prelude.{◌≡◌, ℕ, List, map, Some};
 ghost use Rattle.bus_formats.specs.Accepted.{IsAccepted};
-ghost use Rattle.bus_formats.specs.Plans.{PlanData};
+ghost use Rattle.bus_formats.specs.Plans.{StationData, PlanData};
 ghost use Rattle.bus_model.specs.Memory.{TimedLoad};
 ghost use Rattle.bus_model.specs.Run.{Run, Next, next_item, first_run, attempt, attempts_after};
 ghost use Rattle.bus_model.specs.Message.{answer_to, after_command, after_answer};
 ghost use Rattle.bus_model.specs.Strikes.{ShownBurst, Answer, ShownAnswer};
-ghost use Rattle.bus_law_plans.specs.Entries.{IsRunOf};
+ghost use Rattle.bus_law_plans.specs.Entries.{IsRunOf, IsRunAmong};
 ghost use Rattle.bus_law_plans.specs.Sent.{begun_of, command_of, first_of};
 ghost use Rattle.bus_law_plans.specs.Memories.{AreBlocks, KeepsWordRanges, HasAnswerRanges};
 
@@ -16,8 +16,8 @@ ghost use Rattle.bus_law_plans.specs.Memories.{AreBlocks, KeepsWordRanges, HasAn
 /// where the blocks that are put up for sending meanwhile have such words too.
 pub fn memories_keep_word_ranges()
     ensures first { (plan : PlanData) → IsAccepted plan → KeepsWordRanges (first_run plan) }
-    ensures next { (k : ℕ) (plan : PlanData) (loads : List TimedLoad) (run : Run) → AreBlocks loads → IsRunOf plan run → KeepsWordRanges run →
-        KeepsWordRanges (attempt k loads plan.faults run) }
+    ensures next { (k : ℕ) (plan : PlanData) (loads : List TimedLoad) (own : List StationData) (run : Run) → AreBlocks loads → IsRunAmong plan own run →
+        KeepsWordRanges run → KeepsWordRanges (attempt k loads plan.faults run) }
     ensures each { (k : ℕ) (plan : PlanData) (loads : List TimedLoad) (n : ℕ) → IsAccepted plan → AreBlocks loads →
         KeepsWordRanges (attempts_after k loads plan.faults n (first_run plan)) }
 {}

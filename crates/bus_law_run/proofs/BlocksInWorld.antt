@@ -12,14 +12,14 @@ use Rattle.bus_model.specs.Orders.{Taken}
 use Rattle.bus_model.specs.Starts.{starts}
 use Rattle.bus_model.specs.World.{is_present}
 use Rattle.bus_model.specs.WorldLog.{present_stations}
-use Rattle.bus_law_messages.proofs.Sending.{shown-long}
 use Rattle.bus_law_table.specs.Happened.{block_at, took_in, blocks_in as blocks_now, blocks_found}
 use Rattle.bus_law_table.proofs.Pairing.{Has, has-filter}
-use Rattle.bus_law_phases.specs.Scenarios.{Scenario, IsPresentAt, shown_at, blocks_in, standing_of}
+use Rattle.bus_law_phases.specs.Scenarios.{Scenario, IsPresentAt, shown_at, blocks_in, standing_of, IsWhole}
 use Rattle.bus_law_run.specs.Blocks.{taken_newest, IsHeard}
 use Rattle.bus_law_run.proofs.BlocksKept.{station-blocks}
 use Rattle.bus_law_run.proofs.TickTaken.{taken-found}
 use Rattle.bus_law_run.proofs.Fronts.{blocks-front, front-each}
+use Rattle.bus_law_phases.proofs.Staying.{long-later}
 
 -- ---- what holds of each item found
 
@@ -41,10 +41,10 @@ each-right P (x ∷ firsts) more all = each-right P firsts more all.1
 
 -- ---- one tick of one station
 
-module _ (w : Scenario) (end : ℕ) (P : Delivered → Type 0) (all : Each P (blocks_in w (shown_at w end))) (t : ℕ) (early : t < end) (other : ℕ)
+module _ (w : Scenario) (whole : IsWhole w) (end : ℕ) (P : Delivered → Type 0) (all : Each P (blocks_in w (shown_at w end))) (t : ℕ) (early : t < end) (other : ℕ)
     (station : StationData) (here : IsPresentAt w other station) where
   long : length (shown_at w t) ≡ t
-  long = shown-long w.lag w.plan w.loads w.outside w.absent t
+  long = long-later w 0 t (omega arith) whole.stays
 
   -- the newest tick
   module _ (shown : Pair) (newest : shown_at w (suc t) ≡ shown ∷ shown_at w t) (heard : IsHeard w station shown (shown_at w t)) where
@@ -63,7 +63,7 @@ module _ (w : Scenario) (end : ℕ) (P : Delivered → Type 0) (all : Each P (bl
         (subst (λ n. Each P (blocks_now w.lag w.plan w.loads w.outside w.absent (shown ∷ past) n)) long
         (each-right P (blocks_in w past) (blocks_now w.lag w.plan w.loads w.outside w.absent (shown ∷ past) (length past))
         (subst (λ p. Each P (blocks_in w p)) newest (front-each P (blocks_in w (shown_at w (suc t))) (blocks_in w (shown_at w end))
-        (blocks-front w (suc t) end (omega (arith, early))) all))))
+        (blocks-front w 0 whole.stays (suc t) end (omega arith) (omega (arith, early))) all))))
 
     -- each receive block stays, or becomes one of which P holds
     pub stays-or-so : (sub : ℕ) →

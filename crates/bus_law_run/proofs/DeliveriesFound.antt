@@ -14,7 +14,7 @@ use Rattle.bus_formats.specs.declared.log.Delivery.{Delivery}
 use Rattle.bus_model.specs.Message.{Delivered}
 use Rattle.bus_model.specs.Orders.{Taken}
 use Rattle.bus_model.specs.Starts.{starts}
-use Rattle.bus_model.specs.World.{is_present, ticks_on}
+use Rattle.bus_model.specs.World.{Trace, is_present}
 use Rattle.bus_model.specs.WorldLog.{present_stations}
 use Rattle.bus_law_plans.proofs.Stations.{Apart, apart-from}
 use Rattle.bus_law_table.specs.Happened.{block_at, took_in, blocks_in as blocks_now, blocks_found}
@@ -23,6 +23,7 @@ use Rattle.bus_law_run.specs.Blocks.{deliveries_of, IsHeard}
 use Rattle.bus_law_run.specs.WholeRun.{IsAcceptedScenario}
 use Rattle.bus_law_run.proofs.FirstRests.{all-present}
 use Rattle.bus_law_run.proofs.TickTaken.{took-delivery}
+use Rattle.bus_law_phases.proofs.Staying.{newest, shown-next, stays-later}
 
 -- ---- one of many
 
@@ -94,17 +95,23 @@ module _ (w : Scenario) (is : IsAcceptedScenario w) (present : w.absent ≡ []) 
   found-now past tick =
       ap (λ ss. found_at station.terminal.address (filter_map (took past tick) ss)) stations-all
       ∙ found-own (took past tick) (λ s d told. taken-named past tick s _ _ d told) w.plan.stations place station
-      (apart-from (addresses w.plan) is.accepted.apart) here.there
+      (apart-from (addresses w.plan) is.bus.accepted.apart) here.there
 
   pub deliveries-found : (t : ℕ) → t ≤ end →
       found_at station.terminal.address (blocks_in w (shown_at w t)) ≡ deliveries_of w.lag station (starts w.plan station) w.loads w.outside (shown_at w t)
-  unfolding ticks_on blocks_found deliveries_of
-  deliveries-found zero early = refl
+  unfolding blocks_found deliveries_of
+  deliveries-found zero early =
+      ap (λ (tr : Trace). found_at station.terminal.address (blocks_in w tr.shown)) is.whole.first
+      ∙ ap (λ (tr : Trace). deliveries_of w.lag station (starts w.plan station) w.loads w.outside tr.shown) (sym is.whole.first)
   deliveries-found (suc t) early =
       let past : List Pair = shown_at w t in
-      filter_map-append (at_address station.terminal.address) (blocks_in w past) (blocks_now w.lag w.plan w.loads w.outside w.absent (shown_at w (suc t)) (length past))
-      ∙ ap (λ ds. ds ++ found_at station.terminal.address (blocks_now w.lag w.plan w.loads w.outside w.absent (shown_at w (suc t)) (length past)))
+      let grows : shown_at w (suc t) ≡ newest w t ∷ shown_at w t = shown-next w t (stays-later w 0 t (omega arith) is.whole.stays) in
+      let now : List Pair = newest w t ∷ shown_at w t in
+      ap (λ p. found_at station.terminal.address (blocks_in w p)) grows ∙
+      filter_map-append (at_address station.terminal.address) (blocks_in w past) (blocks_now w.lag w.plan w.loads w.outside w.absent now (length past))
+      ∙ ap (λ ds. ds ++ found_at station.terminal.address (blocks_now w.lag w.plan w.loads w.outside w.absent now (length past)))
       (deliveries-found t (omega (arith, early)))
       ∙ ap (λ ds. deliveries_of w.lag station (starts w.plan station) w.loads w.outside past ++ ds)
-      (found-now (shown_at w (suc t)) (length past)
-      ∙ ap option_to_list (took-delivery w station _ past (heard t (omega (arith, early)) _ refl)))
+      (found-now now (length past)
+      ∙ ap option_to_list (took-delivery w station _ past (heard t (omega (arith, early)) _ grows)))
+      ∙ ap (deliveries_of w.lag station (starts w.plan station) w.loads w.outside) (sym grows)

@@ -8,40 +8,43 @@ use Rattle.bus_base.specs.declared.samples.Channel.{Channel}
 use Rattle.bus_base.specs.declared.samples.Pair.{Pair}
 use Rattle.bus_line.specs.Channels.{valid, bursts}
 use Rattle.bus_model.specs.Log.{is_before, with_entry, in_order}
-use Rattle.bus_model.specs.World.{ticks_on}
 use Rattle.bus_model.specs.WorldLog.{attempts}
 use Rattle.bus_law_table.specs.Happened.{blocks_found}
-use Rattle.bus_law_phases.specs.Scenarios.{Scenario, shown_at, attempts_in, blocks_in}
+use Rattle.bus_law_phases.specs.Scenarios.{Scenario, StaysFrom, shown_at, attempts_in, blocks_in}
+use Rattle.bus_law_phases.proofs.Staying.{newest, shown-next, stays-later}
 
 -- what is found in the first ticks, and what more in later ones
 abbrev pub IsFront : {X : Type 0} → List X → List X → Type 0
 IsFront {X} firsts all = (more : List X) × (all ≡ firsts ++ more)
 
-module _ {X : Type 0} (w : Scenario) (f : List Pair → List X) (grows : (t : ℕ) → IsFront (f (shown_at w t)) (f (shown_at w (suc t)))) where
-  front : (t u : ℕ) → t ≤ u → IsFront (f (shown_at w t)) (f (shown_at w u))
-  front t zero few = let same : t ≡ zero = omega (arith, few) in ([], ap (λ n. f (shown_at w n)) (sym same) ∙ sym (append-nil (f (shown_at w t))))
-  front t (suc u) few = elim (cases_eq t (suc u)) [
+module _ {X : Type 0} (w : Scenario) (a : ℕ) (f : List Pair → List X) (grows : (t : ℕ) → a ≤ t → IsFront (f (shown_at w t)) (f (shown_at w (suc t)))) where
+  front : (t u : ℕ) → a ≤ t → t ≤ u → IsFront (f (shown_at w t)) (f (shown_at w u))
+  front t zero from few = let same : t ≡ zero = omega (arith, few) in ([], ap (λ n. f (shown_at w n)) (sym same) ∙ sym (append-nil (f (shown_at w t))))
+  front t (suc u) from few = elim (cases_eq t (suc u)) [
     | inl same ↦ ([], ap (λ n. f (shown_at w n)) (sym same) ∙ sym (append-nil (f (shown_at w t))))
-    | inr other ↦ (let before = front t u (omega (arith, few, other)) in let now = grows u in
+    | inr other ↦ (let before = front t u from (omega (arith, few, other)) in let now = grows u (omega (arith, from, few, other)) in
         (before.0 ++ now.0, now.1 ∙ ap (λ xs. xs ++ now.0) before.1 ∙ append_assoc (f (shown_at w t)) before.0 now.0))
   ]
 
-module _ (w : Scenario) where
-  pub attempts-front : (t u : ℕ) → t ≤ u → IsFront (attempts_in w (shown_at w t)) (attempts_in w (shown_at w u))
-  unfolding ticks_on attempts
-  attempts-front = front w (attempts_in w) (λ t. (_, refl))
+module _ (w : Scenario) (a : ℕ) (stays : StaysFrom w a) where
+  next-shown : (t : ℕ) → a ≤ t → shown_at w (suc t) ≡ newest w t ∷ shown_at w t
+  next-shown t from = shown-next w t (stays-later w a t from stays)
 
-  pub bursts-front : (t u : ℕ) → t ≤ u → IsFront (bursts w.lag (shown_at w t)) (bursts w.lag (shown_at w u))
-  unfolding ticks_on bursts
-  bursts-front = front w (bursts w.lag) (λ t. (_, refl))
+  pub attempts-front : (t u : ℕ) → a ≤ t → t ≤ u → IsFront (attempts_in w (shown_at w t)) (attempts_in w (shown_at w u))
+  unfolding attempts
+  attempts-front = front w a (attempts_in w) (λ t from. (_, ap (attempts_in w) (next-shown t from)))
 
-  pub blocks-front : (t u : ℕ) → t ≤ u → IsFront (blocks_in w (shown_at w t)) (blocks_in w (shown_at w u))
-  unfolding ticks_on blocks_found
-  blocks-front = front w (blocks_in w) (λ t. (_, refl))
+  pub bursts-front : (t u : ℕ) → a ≤ t → t ≤ u → IsFront (bursts w.lag (shown_at w t)) (bursts w.lag (shown_at w u))
+  unfolding bursts
+  bursts-front = front w a (bursts w.lag) (λ t from. (_, ap (bursts w.lag) (next-shown t from)))
 
-  pub words-front : (t u : ℕ) → t ≤ u → IsFront (valid w.lag (shown_at w t)) (valid w.lag (shown_at w u))
-  unfolding ticks_on valid
-  words-front = front w (valid w.lag) (λ t. (_, refl))
+  pub blocks-front : (t u : ℕ) → a ≤ t → t ≤ u → IsFront (blocks_in w (shown_at w t)) (blocks_in w (shown_at w u))
+  unfolding blocks_found
+  blocks-front = front w a (blocks_in w) (λ t from. (_, ap (blocks_in w) (next-shown t from)))
+
+  pub words-front : (t u : ℕ) → a ≤ t → t ≤ u → IsFront (valid w.lag (shown_at w t)) (valid w.lag (shown_at w u))
+  unfolding valid
+  words-front = front w a (valid w.lag) (λ t from. (_, ap (valid w.lag) (next-shown t from)))
 
 -- ---- so there are fewer, and what holds of each later one holds of them
 

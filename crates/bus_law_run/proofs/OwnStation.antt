@@ -4,14 +4,13 @@ use Rattle.std.proofs.lemmas.Bool.{eq-eqb, ne_eqb}
 use Rattle.std.specs.Prelude.{not, ◌==◌, find, AllPairs}
 use Rattle.std.specs.List.{AllZip}
 use Rattle.bus_base.specs.declared.samples.Pair.{Pair}
-use Rattle.bus_formats.specs.Accepted.{IsAccepted}
 use Rattle.bus_formats.specs.Plans.{StationData, PlanData}
 use Rattle.bus_model.specs.Message.{Present, address_of_station}
 use Rattle.bus_model.specs.Run.{Run, is_at}
 use Rattle.bus_model.specs.World.{Trace, is_present}
 use Rattle.bus_model.specs.WorldLog.{present_stations}
 use Rattle.bus_law_duties.specs.Duties.{AreApart}
-use Rattle.bus_law_plans.specs.Entries.{IsStationOf, IsRunOf}
+use Rattle.bus_law_plans.specs.Entries.{IsStationOf, IsRunAmong, AreNamedApart}
 use Rattle.bus_law_table.specs.Stations.{loaded_at, IsNamedApart}
 use Rattle.bus_law_table.proofs.AllStations.{IsThere, all-there}
 use Rattle.bus_law_table.proofs.Pairing.{Beside, Has, beside, has-filter}
@@ -80,12 +79,12 @@ own-station w now place holder stations moment apart address named =
 
 -- ---- no two stations of a run have one address
 
-module _ (plan : PlanData) (run : Run) (is : IsRunOf plan run) where
+module _ (plan : PlanData) (run : Run) (own : List StationData) (is : IsRunAmong plan own run) where
   abbrev Of : StationData → Present → Type 0
-  Of own station = IsStationOf plan (not (own.terminal.address == run.holder)) own station
+  Of planned station = IsStationOf plan (not (planned.terminal.address == run.holder)) planned station
 
-  same-addresses : (own : List StationData) (stations : List Present) → AllZip Of own stations →
-      map address_of_station stations ≡ map (λ (s : StationData). s.terminal.address) own
+  same-addresses : (planned : List StationData) (stations : List Present) → AllZip Of planned stations →
+      map address_of_station stations ≡ map (λ (s : StationData). s.terminal.address) planned
   same-addresses [] [] all = refl
   same-addresses [] (y ∷ ys) all = absurd all
   same-addresses (x ∷ xs) [] all = absurd all
@@ -93,6 +92,5 @@ module _ (plan : PlanData) (run : Run) (is : IsRunOf plan run) where
       ap (λ (s : StationData). s.terminal.address ∷ map address_of_station ys) all.0.plan_is
       ∙ ap (λ l. x.terminal.address ∷ l) (same-addresses xs ys all.1)
 
-  pub stations-apart : IsAccepted plan → AreApart run.stations
-  stations-apart accepted =
-      subst (AllPairs (λ a b. a ≢ b)) (sym (same-addresses plan.stations run.stations is.stations)) accepted.apart
+  pub stations-apart : AreNamedApart own → AreApart run.stations
+  stations-apart apart = subst (AllPairs (λ a b. a ≢ b)) (sym (same-addresses own run.stations is.stations)) apart

@@ -8,26 +8,26 @@ use Rattle.bus_base.specs.Samples.{quiet_pairs}
 use Rattle.bus_base.specs.declared.samples.Pair.{Pair}
 use Rattle.bus_line.specs.Channels.{quiet_both}
 use Rattle.bus_formats.specs.Accepted.{IsAccepted}
-use Rattle.bus_formats.specs.Plans.{StationData}
+use Rattle.bus_formats.specs.Plans.{StationData, PlanData}
 use Rattle.bus_formats.specs.Times.{ending_quiet}
 use Rattle.bus_model.specs.Control.{taking_from}
 use Rattle.bus_model.specs.Course.{Course, quiet_from}
 use Rattle.bus_model.specs.Message.{Present}
 use Rattle.bus_model.specs.Run.{Run, next_in, next_by, next_item, run_end}
 use Rattle.bus_model.specs.Starts.{Entry, Opening, usual, superseding, taking, has_items}
-use Rattle.bus_model.specs.World.{is_present, is_done, run_is_over}
+use Rattle.bus_model.specs.World.{is_present, is_done}
 use Rattle.bus_law_messages.specs.Settled.{NoneStarts}
-use Rattle.bus_law_messages.proofs.Sending.{shown-long}
-use Rattle.bus_law_plans.specs.Entries.{IsRunOf}
+use Rattle.bus_law_plans.specs.Entries.{IsRunAmong}
 use Rattle.bus_law_phases.specs.Passages.{Passage, nothing_happens}
 use Rattle.bus_law_phases.specs.Rests.{Rested}
-use Rattle.bus_law_phases.specs.Scenarios.{Scenario, trace_at, shown_at, course_of, IsPresentAt, NoneTakesFrom}
+use Rattle.bus_law_phases.specs.Scenarios.{Scenario, trace_at, shown_at, course_of, IsPresentAt, StaysFrom, is_over_at}
 use Rattle.bus_law_phases.proofs.Silence.{quiet-within}
 use Rattle.bus_law_phases.proofs.SilencedRest.{rest-lasts}
 use Rattle.bus_law_phases.proofs.SilencedStart.{named-apart}
 use Rattle.bus_law_run.specs.RunShows.{RunRests}
 use Rattle.bus_law_run.proofs.OwnStation.{own-station}
 use Rattle.bus_law_run.proofs.Shows.{shows-later}
+use Rattle.bus_law_phases.proofs.Staying.{long-at}
 
 -- ---- nothing is left
 
@@ -47,7 +47,7 @@ all-so test (x ∷ xs) each = rw (each 0 x refl) (all-so test xs (λ i y there. 
 
 -- ---- all stays so until it is over
 
-module _ (w : Scenario) (t : ℕ) (run : Run) (accepted : IsAccepted w.plan) (stays : NoneTakesFrom w 0) (rests : RunRests w t run) (none : next_item run ≡ None) where
+module _ (w : Scenario) (t : ℕ) (run : Run) (accepted : IsAccepted w.plan) (stays : StaysFrom w t) (rests : RunRests w t run) (none : next_item run ≡ None) where
   nothing-left : (course_of w rests.holder (shown_at w t)).left ≡ []
   nothing-left =
       let apart = named-apart w.plan accepted rests.place rests.holder rests.rested.at.there in
@@ -72,7 +72,7 @@ module _ (w : Scenario) (t : ℕ) (run : Run) (accepted : IsAccepted w.plan) (st
   lasts =
       let quiet = rests.quiet in
       rest-lasts w t n rests.place rests.holder run.stations rests.rested (nothing-starts (shown_at w t) (course_of w rests.holder (shown_at w t)) n nothing-left)
-      (λ other st at tick low. stays other st at tick (omega arith)) (inr (omega (arith, until, quiet)))
+      stays (inr (omega (arith, until, quiet)))
 
   rests-then : RunRests w (t + n) run
   rests-then = record {
@@ -91,7 +91,7 @@ module _ (w : Scenario) (t : ℕ) (run : Run) (accepted : IsAccepted w.plan) (st
 
 -- ---- then it is over
 
-module _ (w : Scenario) (run : Run) (accepted : IsAccepted w.plan) (stays : NoneTakesFrom w 0) (of : IsRunOf w.plan run) (rests : RunRests w (run_end run) run)
+module _ (w : Scenario) (run : Run) (accepted : IsAccepted w.plan) (stays : StaysFrom w (run_end run)) (plan : PlanData) (own : List StationData) (of : IsRunAmong plan own run) (rests : RunRests w (run_end run) run)
     (none : next_item run ≡ None) where
   abbrev past : List Pair
   past = shown_at w (run_end run)
@@ -143,7 +143,7 @@ module _ (w : Scenario) (run : Run) (accepted : IsAccepted w.plan) (stays : None
 
   quiet-long : quiet_both past ≡ ending_quiet
   quiet-long =
-      let long = shown-long w.lag w.plan w.loads w.outside w.absent (run_end run) in
+      let long = long-at w (run_end run) stays in
       let within = quiet-within past in
       let quiet = rests.quiet in
       omega (arith, long, within, quiet)
@@ -151,6 +151,6 @@ module _ (w : Scenario) (run : Run) (accepted : IsAccepted w.plan) (stays : None
   long-enough : nat_le ending_quiet (quiet_both past) ≡ true
   long-enough = ap (nat_le ending_quiet) quiet-long
 
-  pub is-over : run_is_over w.lag w.plan w.loads w.outside w.absent (run_end run) ≡ true
+  pub is-over : is_over_at w (run_end run) ≡ true
   is-over =
       ap (λ b. b && list_all done w.plan.stations) long-enough ∙ all-so done w.plan.stations each-done

@@ -25,7 +25,7 @@ use Rattle.bus_law_plans.proofs.Bounded.{each-reverse}
 use Rattle.bus_law_plans.proofs.EachRun.{run-within}
 use Rattle.bus_law_plans.proofs.Lists.{each-map}
 use Rattle.bus_law_table.specs.Happened.{block_at, burst_found}
-use Rattle.bus_law_phases.specs.Scenarios.{Scenario, IsPresentAt, shown_at, attempts_in, blocks_in}
+use Rattle.bus_law_phases.specs.Scenarios.{Scenario, IsPresentAt, shown_at, attempts_in, blocks_in, IsWhole}
 use Rattle.bus_law_run.specs.Blocks.{deliveries_of, IsHeardUntil}
 use Rattle.bus_law_run.specs.RunShows.{RunRests}
 use Rattle.bus_law_run.specs.WholeRun.{IsAcceptedScenario}
@@ -34,11 +34,13 @@ use Rattle.bus_law_run.proofs.BlocksInWorld.{stays-or-so}
 use Rattle.bus_law_run.proofs.DeliveriesFound.{deliveries-found}
 use Rattle.bus_law_run.proofs.Fronts.{attempts-front, bursts-front, words-front, front-few, front-each, ordered-long}
 use Rattle.bus_law_run.proofs.LogFound.{log-found}
+use Rattle.bus_law_phases.proofs.Staying.{is-whole}
+use Rattle.bus_law_run.proofs.Shows.{whole-attempts, whole-blocks, whole-orderly}
 
 -- the bus of an accepted plan
 pub plan-scenario : (plan : PlanData) → IsAccepted plan → IsAcceptedScenario (plan_scenario plan)
 plan-scenario plan accepted =
-    record { lag = refl; accepted = accepted; stays = λ other st at tick low. refl; blocks = tt }
+    record { bus = record { lag = refl; accepted = accepted; blocks = tt }; whole = is-whole LAG plan [] [] [] (λ other st at tick low. refl) }
 
 -- a fact of each entry is one of each in order
 module _ {X : Type 0} (tick_of : X → ℕ) (channel_of : X → Channel) (P : X → Type 0) where
@@ -58,11 +60,11 @@ module _ {X : Type 0} (tick_of : X → ℕ) (channel_of : X → Channel) (P : X 
 
 -- ---- how much there is at the end
 
-module _ (w : Scenario) (t most : ℕ) (run : Run) (small : w.lag ≤ 39) (rests : RunRests w t run) (bounds : IsWithinBounds w.plan most run) where
+module _ (w : Scenario) (whole : IsWhole w) (t most : ℕ) (run : Run) (small : w.lag ≤ 39) (rests : RunRests w t run) (bounds : IsWithinBounds w.plan most run) where
   attempts-few : length (attempts_in w (shown_at w t)) ≤ most
   attempts-few =
       let long : length (attempts_in w (shown_at w t)) ≡ length run.attempts =
-      ap length (sym (append-nil (attempts_in w (shown_at w t))) ∙ rests.shows.attempts_are) ∙ length-reverse run.attempts in
+      ap length (sym (append-nil (attempts_in w (shown_at w t))) ∙ whole-attempts w whole t run [] rests.shows) ∙ length-reverse run.attempts in
       omega (arith, long, bounds.attempts)
 
   bursts-few : length (bursts w.lag (shown_at w t)) ≤ 3 * most
@@ -101,32 +103,35 @@ module _ (plan : PlanData) (accepted : IsAccepted plan) (rests : RunRests (plan_
   abbrev end : ℕ
   end = plan_end plan
 
+  all : IsWhole w
+  all = (plan-scenario plan accepted).whole
+
   bounds : IsWithinBounds plan (most_attempts plan) (plan_run plan)
   bounds = run-within LAG plan [] (omega arith) accepted
 
   within : (t : ℕ) → t ≤ end → IsWithin plan t
   within t early =
-      let attempts = front-few (attempts_in w (shown_at w t)) (attempts_in w (shown_at w end)) (attempts-front w t end early) in
-      let shown = front-few (bursts w.lag (shown_at w t)) (bursts w.lag (shown_at w end)) (bursts-front w t end early) in
-      let words = front-few (valid w.lag (shown_at w t)) (valid w.lag (shown_at w end)) (words-front w t end early) in
+      let attempts = front-few (attempts_in w (shown_at w t)) (attempts_in w (shown_at w end)) (attempts-front w 0 all.stays t end (omega arith) early) in
+      let shown = front-few (bursts w.lag (shown_at w t)) (bursts w.lag (shown_at w end)) (bursts-front w 0 all.stays t end (omega arith) early) in
+      let words = front-few (valid w.lag (shown_at w t)) (valid w.lag (shown_at w end)) (words-front w 0 all.stays t end (omega arith) early) in
       record {
-        attempts_few = omega (arith, attempts, attempts-few w end (most_attempts plan) (plan_run plan) (omega arith) rests bounds);
-        bursts_few = omega (arith, shown, bursts-few w end (most_attempts plan) (plan_run plan) (omega arith) rests bounds);
-        words_few = omega (arith, words, words-few w end (most_attempts plan) (plan_run plan) (omega arith) rests bounds);
+        attempts_few = omega (arith, attempts, attempts-few w all end (most_attempts plan) (plan_run plan) (omega arith) rests bounds);
+        bursts_few = omega (arith, shown, bursts-few w all end (most_attempts plan) (plan_run plan) (omega arith) rests bounds);
+        words_few = omega (arith, words, words-few w all end (most_attempts plan) (plan_run plan) (omega arith) rests bounds);
         short = front-each (λ (whole : WholeBurst). whole.burst.ticks ≤ 1600) (bursts w.lag (shown_at w t)) (bursts w.lag (shown_at w end))
-            (bursts-front w t end early) (all-short w end (most_attempts plan) (plan_run plan) (omega arith) rests bounds);
+            (bursts-front w 0 all.stays t end (omega arith) early) (all-short w all end (most_attempts plan) (plan_run plan) (omega arith) rests bounds);
       }
 
   log : world_log LAG plan end ≡ run_log LAG plan
   unfolding world_log run_log
-  log = log-found w (plan_run plan) (omega arith) rests
+  log = log-found w all (plan_run plan) (omega arith) rests
 
   -- ---- the receive blocks
 
   all-sent : (plan_run plan).counted ≡ true → Each (IsDeliveredIn LAG [] plan (most_attempts plan)) (blocks_in w (shown_at w end))
   unfolding run_of
   all-sent counted =
-      subst (Each (IsDeliveredIn LAG [] plan (most_attempts plan))) (sym rests.shows.blocks_are)
+      subst (Each (IsDeliveredIn LAG [] plan (most_attempts plan))) (sym (whole-blocks w all end (plan_run plan) [] rests.shows))
       (each-reverse (IsDeliveredIn LAG [] plan (most_attempts plan)) (plan_run plan).deliveries
       (all-delivered LAG plan [] (most_attempts plan) accepted counted))
 
@@ -135,7 +140,7 @@ module _ (plan : PlanData) (accepted : IsAccepted plan) (rests : RunRests (plan_
   unfolding ticks_on
   whole counted t early place station there sub =
       let here : IsPresentAt w place station = record { there = there; present = refl } in
-      elim (stays-or-so w end (IsDeliveredIn LAG [] plan (most_attempts plan)) (all-sent counted) t early place station here _ refl
+      elim (stays-or-so w all end (IsDeliveredIn LAG [] plan (most_attempts plan)) (all-sent counted) t early place station here _ refl
       (heard t early place station here _ refl) sub) [
         | inl same ↦ inl same
         | inr new ↦ inr record {
@@ -153,14 +158,14 @@ module _ (plan : PlanData) (accepted : IsAccepted plan) (rests : RunRests (plan_
   deliveries place station there =
       let here : IsPresentAt w place station = record { there = there; present = refl } in
       sym (deliveries-found w (plan-scenario plan accepted) refl end place station here (λ t early. heard t early place station here) end (omega arith))
-      ∙ ap (λ ds. filter_map (λ (d : Delivered). if d.address == station.terminal.address then Some d.delivery else None) ds) rests.shows.blocks_are
+      ∙ ap (λ ds. filter_map (λ (d : Delivered). if d.address == station.terminal.address then Some d.delivery else None) ds) (whole-blocks w all end (plan_run plan) [] rests.shows)
 
   pub whole-world : WorldIsRun plan
   whole-world = record {
     log = log;
     over = over;
-    orderly = λ t before. rests.shows.orderly t before;
-    blocks = rests.shows.blocks_are;
+    orderly = λ t before. whole-orderly w all end (plan_run plan) [] rests.shows t before;
+    blocks = whole-blocks w all end (plan_run plan) [] rests.shows;
     deliveries = deliveries;
     whole = whole;
     ends = bounds.ticks;

@@ -5,6 +5,7 @@ use Rattle.bus_formats.specs.Plans.{StationData}
 use Rattle.bus_formats.specs.Times.{ending_quiet}
 use Rattle.bus_formats.specs.declared.log.Attempt.{Attempt}
 use Rattle.bus_model.specs.Course.{quiet_from}
+use Rattle.bus_model.specs.Message.{Delivered}
 use Rattle.bus_model.specs.Run.{Run}
 use Rattle.bus_law_listing.specs.Listing.{found_in_order}
 use Rattle.bus_law_phases.specs.Passages.{IsOrderly}
@@ -13,13 +14,18 @@ use Rattle.bus_law_phases.specs.Scenarios.{Scenario, trace_at, shown_at, driven_
 use Rattle.bus_law_table.specs.Happened.{burst_found}
 
 -- the attempts that ended in the first t ticks, with those that are still to end, are the run's; so are the bursts that were found, in the order of their
--- ends, the blocks that were taken, and the number of commands; and each tick was in order
+-- ends, the blocks that were taken, and the number of commands; and each tick was in order. Of a bus that a station left all this is said of the ticks since,
+-- beside what was found before
 pub record RunShows (w : Scenario) (t : ℕ) (run : Run) (pending : List Attempt) : Type 0 where
-  pub attempts_are : attempts_in w (shown_at w t) ++ pending ≡ reverse run.attempts
+  pub ended : List Attempt
+  pub ended_since : attempts_in w (shown_at w t) ≡ attempts_in w (shown_at w w.earlier.ticks) ++ ended
+  pub attempts_are : (w.earlier.attempts ++ ended) ++ pending ≡ reverse run.attempts
   pub bursts_are : bursts w.lag (shown_at w t) ≡ found_in_order (map burst_found (reverse run.bursts))
-  pub blocks_are : blocks_in w (shown_at w t) ≡ reverse run.deliveries
+  pub taken : List Delivered
+  pub taken_since : blocks_in w (shown_at w t) ≡ blocks_in w (shown_at w w.earlier.ticks) ++ taken
+  pub blocks_are : w.earlier.blocks ++ taken ≡ reverse run.deliveries
   pub counted : commands_in w (driven_at w t) ≡ length run.attempts
-  pub orderly : (i : ℕ) → i < t → IsOrderly w i
+  pub orderly : (i : ℕ) → w.earlier.ticks ≤ i → i < t → IsOrderly w i
 
 -- the world has come as far as a run, between two messages, and no attempt is still to end
 pub record RunRests (w : Scenario) (t : ℕ) (run : Run) : Type 0 where

@@ -16,12 +16,12 @@ use Rattle.bus_law_plans.specs.Amounts.{station_ticks}
 use Rattle.bus_law_plans.specs.Sent.{IsDeliveredIn}
 use Rattle.bus_law_table.specs.Happened.{blocks_found}
 use Rattle.bus_law_phases.specs.Passages.{IsOrderly}
-use Rattle.bus_law_phases.specs.Scenarios.{Scenario}
+use Rattle.bus_law_phases.specs.Scenarios.{Scenario, whole_scenario}
 use Rattle.bus_law_run.specs.Blocks.{deliveries_of}
 
 -- the bus of a plan: every station is present, and nothing is put up for sending or taken from outside
 abbrev pub plan_scenario : PlanData → Scenario
-plan_scenario plan = record { lag = LAG; plan = plan; loads = []; outside = []; absent = [] }
+plan_scenario plan = whole_scenario LAG plan [] [] []
 
 -- its run by the message table, and the tick in which that ends
 abbrev pub plan_run : PlanData → Run

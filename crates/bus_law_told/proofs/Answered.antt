@@ -18,13 +18,14 @@ use Rattle.bus_law_stations.specs.Silence.{NothingStarts}
 use Rattle.bus_law_phases.specs.Answers.{IsStatusWithData, AnswerBegins, burst_read, HoldsBesideShown, AnswerOver, attempts_ended}
 use Rattle.bus_law_phases.specs.Moments.{DutyLasts, LastsTo}
 use Rattle.bus_law_phases.specs.Passages.{Happening, followed_by}
-use Rattle.bus_law_phases.specs.Scenarios.{Scenario, shown_at, driven_at, commands_in, course_of, NoneTakesFrom}
+use Rattle.bus_law_phases.specs.Scenarios.{Scenario, shown_at, driven_at, commands_in, course_of, StaysFrom}
 use Rattle.bus_law_phases.specs.Silences.{GoesOnTo}
 use Rattle.bus_law_phases.proofs.AnswerBegun.{owed-of}
 use Rattle.bus_law_phases.proofs.AnswerPasses.{answer-passes-shown}
 use Rattle.bus_law_phases.proofs.Passing.{joined}
 use Rattle.bus_law_phases.proofs.SilencedItems.{items-answer}
-use Rattle.bus_law_told.proofs.Coming.{Came, came-later, course-later, shown-later, none-later}
+use Rattle.bus_law_told.proofs.Coming.{Came, came-later, course-later, shown-later}
+use Rattle.bus_law_phases.proofs.Staying.{stays-later}
 
 -- ---- an answer that is owed is due when the table's answer starts
 
@@ -53,7 +54,7 @@ answer_happens w holder afters answer later = record {
   commands = 0;
 }
 
-module _ (w : Scenario) (t place : ℕ) (holder : StationData) (c0 : Course) (none : NoneTakesFrom w t) (lag : w.lag ≡ 3) (accepted : IsAccepted w.plan)
+module _ (w : Scenario) (t place : ℕ) (holder : StationData) (c0 : Course) (none : StaysFrom w t) (lag : w.lag ≡ 3) (accepted : IsAccepted w.plan)
     (u : ℕ) (burst : ShownBurst) (part : Part) (afters : List After) (h : Happening)
     (came : Came w t place holder c0 u burst.channel (burst_end burst) part afters h) where
   -- ---- until it is due
@@ -110,7 +111,7 @@ module _ (w : Scenario) (t place : ℕ) (holder : StationData) (c0 : Course) (no
       pub answer-over : AnswerOver w u (burst_end answer.burst + suc w.lag) place holder burst afters answer.burst later
       unfolding begins-now
       answer-over =
-          answer-passes-shown w u place holder part burst afters answer later lag accepted (none-later w t u came.passage.later none) begins-now beside
+          answer-passes-shown w u place holder part burst afters answer later lag accepted (stays-later w t u came.passage.later none) begins-now beside
 
       pub answered-came : Came w t place holder c0 (burst_end answer.burst + suc w.lag) burst.channel (burst_end answer.burst) Second
           (map (after_answer w.lag w.loads answer.burst) afters) (followed_by h (answer_happens w holder afters answer.burst later))

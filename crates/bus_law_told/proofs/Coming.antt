@@ -12,10 +12,11 @@ use Rattle.bus_law_stations.specs.Silence.{NothingStarts}
 use Rattle.bus_law_phases.specs.Closings.{HasItemsOf}
 use Rattle.bus_law_phases.specs.Moments.{Underway, LastsTo}
 use Rattle.bus_law_phases.specs.Passages.{Happening, Passage, followed_by, nothing_happens}
-use Rattle.bus_law_phases.specs.Scenarios.{Scenario, trace_at, shown_at, course_of, NoneTakesFrom}
+use Rattle.bus_law_phases.specs.Scenarios.{Scenario, trace_at, shown_at, course_of, StaysFrom}
 use Rattle.bus_law_phases.specs.Silences.{GoesOnTo}
 use Rattle.bus_law_phases.proofs.Lasting.{lasting}
 use Rattle.bus_law_phases.proofs.Passing.{joined}
+use Rattle.bus_law_phases.proofs.Staying.{stays-later}
 
 -- from tick t on this happened, and by tick u the moment is one after a burst that ended in tick e; the items and the live channel of the station in
 -- control are still those of its course c0
@@ -34,18 +35,14 @@ nothing-after h =
     ∙ ap (λ atts. record { blocks = h.blocks; bursts = h.bursts; attempts = atts; commands = h.commands + 0 }) (append-nil h.attempts)
     ∙ ap (λ n. record { blocks = h.blocks; bursts = h.bursts; attempts = h.attempts; commands = n }) (omega arith)
 
--- nobody takes control by itself in later ticks either
-pub none-later : (w : Scenario) (t u : ℕ) → t ≤ u → NoneTakesFrom w t → NoneTakesFrom w u
-none-later w t u up none place station at tick late = none place station at tick (omega (arith, up, late))
-
-module _ (w : Scenario) (t place : ℕ) (holder : StationData) (c0 : Course) (none : NoneTakesFrom w t) where
+module _ (w : Scenario) (t place : ℕ) (holder : StationData) (c0 : Course) (none : StaysFrom w t) where
   -- nothing is due up to a later tick: the moment lasts, the station in control is as it was
   module _ (u n : ℕ) (c : Channel) (e : ℕ) (part : Part) (afters : List After) (h : Happening) (came : Came w t place holder c0 u c e part afters h)
       (idle : NothingStarts w.lag (course_of w holder (shown_at w u)) (shown_at w u) n) (lasts : All (LastsTo (u + n) e) afters)
       (goes : GoesOnTo w (shown_at w u) (u + n)) where
     abbrev later_quiet : (shown_at w (u + n) ≡ quiet_pairs n ++ shown_at w u) × Underway w (trace_at w (u + n)) place holder c e part afters
         × (course_of w holder (shown_at w (u + n)) ≡ course_of w holder (shown_at w u)) × Passage w u (u + n) nothing_happens
-    later_quiet = lasting w u n place holder c e part afters came.moment idle lasts (none-later w t u came.passage.later none) goes
+    later_quiet = lasting w u n place holder c e part afters came.moment idle lasts (stays-later w t u came.passage.later none) goes
 
     pub came-later : Came w t place holder c0 (u + n) c e part afters h
     came-later = record {

@@ -20,17 +20,17 @@ use Rattle.bus_model.specs.Run.{quiet_after, with_station, after_attempt}
 use Rattle.bus_model.specs.Starts.{Entry, Origin, usual, needed_quiet, opening_after, start_of, quiet_for, earliest_for}
 use Rattle.bus_model.specs.Strikes.{ShownBurst}
 use Rattle.bus_law_messages.specs.Settled.{NoneStarts}
-use Rattle.bus_law_messages.proofs.Sending.{shown-long}
 use Rattle.bus_law_phases.specs.Closings.{stations_closed}
 use Rattle.bus_law_phases.specs.Commands.{begun_at, command_at, attempt_recorded}
 use Rattle.bus_law_phases.specs.Passages.{Happening, Passage}
 use Rattle.bus_law_phases.specs.Rests.{Rested}
-use Rattle.bus_law_phases.specs.Scenarios.{Scenario, trace_at, shown_at, course_of}
+use Rattle.bus_law_phases.specs.Scenarios.{Scenario, trace_at, shown_at, course_of, StaysFrom}
 use Rattle.bus_law_phases.proofs.SilencedMoments.{closed-rested}
 use Rattle.bus_law_phases.proofs.SilencedStart.{named-apart}
 use Rattle.bus_law_moments.specs.Told.{message_at, attempt_at, stations_after, MessageTold}
 use Rattle.bus_law_told.specs.Tables.{MessageIs}
 use Rattle.bus_law_told.proofs.Coming.{Came}
+use Rattle.bus_law_phases.proofs.Staying.{long-later}
 
 -- ---- the quiet that the next message needs
 
@@ -73,7 +73,7 @@ pub record EndsPlainly (begun : Begun) (ended : Ended) (tick : ℕ) : Type 0 whe
   pub keeps : gives ended.outcome ≡ false
   pub opens : opening_after ended.outcome begun.state.channel tick ≡ usual (needed_quiet ended.outcome) (suc tick)
 
-module _ (w : Scenario) (t place : ℕ) (holder : StationData) (stations : List Present) (entry : Entry) (accepted : IsAccepted w.plan)
+module _ (w : Scenario) (t place : ℕ) (holder : StationData) (stations : List Present) (entry : Entry) (accepted : IsAccepted w.plan) (none : StaysFrom w t)
     (earlier : List Attempt) (found : List ShownBurst) where
   abbrev c0 : Course
   c0 = course_of w holder (shown_at w t)
@@ -126,7 +126,7 @@ module _ (w : Scenario) (t place : ℕ) (holder : StationData) (stations : List 
 
       early-then : NoneStarts out (shown_at w u) 0
       early-then next later left =
-          let many : length (shown_at w u) ≡ u = shown-long w.lag w.plan w.loads w.outside w.absent u in
+          let many : length (shown_at w u) ≡ u = long-later w t u came.passage.later none in
           subst (λ n. n + 0 ≤ start_of out.opening out.retry out.origin next (quiet_from (shown_at w u))) (sym many)
           (subst (λ o. u + 0 ≤ start_of o out.retry out.origin next (quiet_from (shown_at w u))) (sym opens-so)
           (subst (λ z. u + 0 ≤ start_of (usual (needed_quiet ended.outcome) (suc tick)) out.retry out.origin next z) (sym came.quiet) (starts-so soon next)))

@@ -100,7 +100,7 @@ module _ (w : Scenario) (t place : ℕ) (holder : StationData) (stations : List 
         MessageTold w t holder stations entry place b.base.ended b.base.found
     free-told free-all is soon plainly =
         let after = after-command in
-        told w t place holder stations entry b.base.began.accepted b.base.ended b.base.found (x + suc w.lag) cmd.channel x Second settled_now blocks_now
+        told w t place holder stations entry b.base.began.accepted b.base.began.none b.base.ended b.base.found (x + suc w.lag) cmd.channel x Second settled_now blocks_now
         (first.burst ∷ []) ended (x + w.lag)
         came-closed free-all course-closed b.base.began.held is (quiet-more b.base.found (burst_end cmd) first.burst b.base.began.known.last after-command)
         (omega (arith, after)) (omega (arith, soon))

@@ -11,7 +11,6 @@ use Rattle.bus_model.specs.Course.{Course}
 use Rattle.bus_model.specs.Message.{Present, After, answer_to}
 use Rattle.bus_model.specs.Starts.{Entry}
 use Rattle.bus_model.specs.Strikes.{ShownBurst, burst_end, Answer}
-use Rattle.bus_law_messages.proofs.Sending.{shown-long}
 use Rattle.bus_law_control.proofs.OwnChannel.{first-own}
 use Rattle.bus_law_stations.specs.Messages.{with_running}
 use Rattle.bus_law_stations.specs.Silence.{AwaitsFirst, NothingStarts}
@@ -24,6 +23,7 @@ use Rattle.bus_law_told.proofs.Answered.{came-due, course-due, shown-due}
 use Rattle.bus_law_told.proofs.Coming.{Came}
 use Rattle.bus_law_told.proofs.Known.{Begins, c0, begun, command, known, ordered, command_happens, passed, came-known}
 use Rattle.bus_law_told.proofs.Unanswered.{quiet-many, waits-on, waiter-busy}
+use Rattle.bus_law_phases.proofs.Staying.{long-later}
 
 module _ (w : Scenario) (t place : ℕ) (holder : StationData) (stations : List Present) (entry : Entry) (b : Begins w t place holder stations entry)
     (shape : Shape) (expects : (answers_of entry.item.kind).first ≡ Some shape) (answer : Answer)
@@ -67,7 +67,7 @@ module _ (w : Scenario) (t place : ℕ) (holder : StationData) (stations : List 
 
   idle : NothingStarts w.lag (course_of w holder (shown_at w since)) (shown_at w since) (due - since)
   idle =
-      waits-on w t place holder start b.began.none since (due - since) (burst_end cmd) opened (ap (λ (d : Course). d.runs) since-runs) (inl since-waits)
+      waits-on w t place holder start b.began.none since (due - since) (burst_end cmd) opened came-since.passage.later (ap (λ (d : Course). d.runs) since-runs) (inl since-waits)
       (omega (arith, late, in-time))
 
   goes : GoesOnTo w (shown_at w since) due
@@ -96,7 +96,7 @@ module _ (w : Scenario) (t place : ℕ) (holder : StationData) (stations : List 
 
   pub in-time-first : IsAnsweredInTime w (shown_at w due) holder cmd.channel opened (burst_end cmd)
   in-time-first =
-      let many : length (shown_at w due) ≡ due = shown-long w.lag w.plan w.loads w.outside w.absent due in record {
+      let many : length (shown_at w due) ≡ due = long-later w t due came-first.passage.later b.began.none in record {
         at = record { holds = came-first.moment.holds; rests = came-first.moment.rests cmd.channel };
         started = ap (λ (d : Course). d.runs) course-first;
         channel = refl;

@@ -16,7 +16,6 @@ use Rattle.bus_model.specs.Starts.{Entry}
 use Rattle.bus_model.specs.Strikes.{hits_on, ShownBurst, burst_end, ShownAnswer, shown_answer}
 use Rattle.bus_law_duties.specs.Duties.{AtMostOneOwes}
 use Rattle.bus_law_duties.proofs.Settled.{one-owes-answer}
-use Rattle.bus_law_messages.proofs.Sending.{shown-long}
 use Rattle.bus_law_parts.specs.Parts.{HitsFit}
 use Rattle.bus_law_stations.specs.Silence.{AwaitsFirst}
 use Rattle.bus_law_phases.specs.Answers.{MayAbandon, burst_read, HoldsBesideShown, BeginsAt, AnswerOver}
@@ -31,6 +30,7 @@ use Rattle.bus_law_told.proofs.FirstDue as due
 use Rattle.bus_law_told.proofs.Known.{Begins, c0, begun, command, ordered, attempt_begun, command_happens, numbered, ranged}
 use Rattle.bus_law_told.proofs.TablesDue.{loads-fit}
 use Rattle.bus_law_told.proofs.TablesShown.{first-shown-to}
+use Rattle.bus_law_phases.proofs.Staying.{long-later}
 
 -- no partial word stands after an answer as it is shown
 pub same-rest : (burst : ShownBurst) → burst.rest ≡ 0 → rest_of (burst_read burst) ≡ burst.rest
@@ -69,18 +69,18 @@ module _ (w : Scenario) (t place : ℕ) (holder : StationData) (stations : List 
   pub found : answer_to cmd obeyed ≡ Some first.sent
   found = is.sent
 
+  pub came-first : Came w t place holder start first.sent.start cmd.channel (burst_end cmd) First obeyed before
+  came-first = due.came-first w t place holder stations entry b shape expects first.sent found shown-so.sent
+
   -- it begins where it is due
   pub begins-first : BeginsAt (length (shown_at w first.sent.start)) First first
   begins-first =
-      let many : length (shown_at w first.sent.start) ≡ first.sent.start = shown-long w.lag w.plan w.loads w.outside w.absent first.sent.start in
+      let many : length (shown_at w first.sent.start) ≡ first.sent.start = long-later w t first.sent.start came-first.passage.later b.began.none in
       subst (λ n. BeginsAt n First first) (sym many) record {
         burst = is.burst;
         fits = subst (λ hs. HitsFit First hs first.sent.words) is.hits_are
             (answer-fits w.plan (attempt_begun w t holder stations entry) First first.sent b.began.accepted shown-so.sent.words);
       }
-
-  pub came-first : Came w t place holder start first.sent.start cmd.channel (burst_end cmd) First obeyed before
-  came-first = due.came-first w t place holder stations entry b shape expects first.sent found shown-so.sent
 
   abbrev pub settled_first : List After
   settled_first = map (after_answer w.lag w.loads first.burst) obeyed

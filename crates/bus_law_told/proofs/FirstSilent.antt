@@ -96,7 +96,7 @@ module _ (w : Scenario) (t place : ℕ) (holder : StationData) (stations : List 
 
     idle : NothingStarts w.lag (course_of w holder (shown_at w u)) (shown_at w u) (suc w.lag)
     idle =
-        waits-on w t place holder start b.began.none u (suc w.lag) e opened (ap (λ (d : Course). d.runs) runs-here) (inl waits-here) soon
+        waits-on w t place holder start b.began.none u (suc w.lag) e opened here.passage.later (ap (λ (d : Course). d.runs) runs-here) (inl waits-here) soon
 
     goes : GoesOnTo w (shown_at w u) (u + suc w.lag)
     goes =

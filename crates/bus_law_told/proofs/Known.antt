@@ -135,7 +135,7 @@ module _ (w : Scenario) (t place : ℕ) (holder : StationData) (stations : List 
   pub sent-told : (answers_of entry.item.kind).first ≡ None → MessageTold w t holder stations entry place b.ended b.found
   sent-told expects =
       let lag = b.began.lag in
-      told w t place holder stations entry b.began.accepted b.ended b.found (known w t holder stations entry) cmd.channel (burst_end cmd) First obeyed
+      told w t place holder stations entry b.began.accepted b.began.none b.ended b.found (known w t holder stations entry) cmd.channel (burst_end cmd) First obeyed
       (command_blocks w t holder stations entry) [] (without_words Sent None None) (burst_end cmd + w.lag)
       (subst (λ bs. Came w t place holder start_course (known w t holder stations entry) cmd.channel (burst_end cmd) First obeyed
       (sent_happens bs (b.ended ++ ended_with_command holder.terminal.address message_begins (burst_end cmd + w.lag) None))) (sym (append-nil b.found))

@@ -17,12 +17,13 @@ use Rattle.bus_law_phases.specs.Closings.{HasItemsOf}
 use Rattle.bus_law_phases.specs.Moments.{Underway}
 use Rattle.bus_law_phases.specs.Mutes.{IsMute, answered_by, answered}
 use Rattle.bus_law_phases.specs.Passages.{Happening, Passage, nothing_happens}
-use Rattle.bus_law_phases.specs.Scenarios.{Scenario, trace_at, shown_at, driven_at, commands_in, course_of, NoneTakesFrom}
+use Rattle.bus_law_phases.specs.Scenarios.{Scenario, trace_at, shown_at, driven_at, commands_in, course_of, StaysFrom}
 use Rattle.bus_law_phases.specs.Silences.{GoesOnTo}
 use Rattle.bus_law_phases.proofs.AnswerBegun.{answer-fits}
 use Rattle.bus_law_phases.proofs.MutePhase.{mute-passes}
 use Rattle.bus_law_phases.proofs.Passing.{joined}
-use Rattle.bus_law_told.proofs.Coming.{Came, none-later, nothing-after}
+use Rattle.bus_law_told.proofs.Coming.{Came, nothing-after}
+use Rattle.bus_law_phases.proofs.Staying.{stays-later}
 
 -- ---- that an answer is over changes no station
 
@@ -61,7 +62,7 @@ all-answered-free (a ∷ rest) kept =
     (answered-free a a.duty refl (All-head (λ a. is_promise a.duty ≡ false) a rest kept))
     (all-answered-free rest (All-tail (λ a. is_promise a.duty ≡ false) a rest kept))
 
-module _ (w : Scenario) (t place : ℕ) (holder : StationData) (c0 : Course) (none : NoneTakesFrom w t) (lag : w.lag ≡ 3) (accepted : IsAccepted w.plan)
+module _ (w : Scenario) (t place : ℕ) (holder : StationData) (c0 : Course) (none : StaysFrom w t) (lag : w.lag ≡ 3) (accepted : IsAccepted w.plan)
     (u : ℕ) (burst : ShownBurst) (part : Part) (afters : List After) (h : Happening)
     (came : Came w t place holder c0 u burst.channel (burst_end burst) part afters h) (answer : Answer) (found : answer_to burst afters ≡ Some answer)
     (now : answer.start ≡ u)
@@ -86,7 +87,7 @@ module _ (w : Scenario) (t place : ℕ) (holder : StationData) (c0 : Course) (no
       × All (λ after. is_owed after.duty ≡ false) (map answered afters)
       × (course_of w holder (shown_at w (u + suc w.lag)) ≡ course_of w holder (shown_at w u))
       × (quiet_from (shown_at w (u + suc w.lag)) ≡ quiet_from (shown_at w u)) × Passage w u (u + suc w.lag) nothing_happens
-  over = mute-passes w u place holder part burst afters answer lag accepted (none-later w t u came.passage.later none) is-mute idle goes
+  over = mute-passes w u place holder part burst afters answer lag accepted (stays-later w t u came.passage.later none) is-mute idle goes
 
   pub muted-came : Came w t place holder c0 (u + suc w.lag) burst.channel (burst_end burst) part (map answered afters) h
   muted-came = record {

@@ -70,7 +70,7 @@ module _ (w : Scenario) (t place : ℕ) (holder : StationData) (stations : List 
   pub no-response-told : MessageIs (message_at w t holder stations entry) ended (e + no_response) settled blocks (cmd ∷ []) →
       MessageTold w t holder stations entry place b.ended b.found
   no-response-told is =
-      told w t place holder stations entry b.began.accepted b.ended b.found (suc (e + relay_wait)) cmd.channel e First settled blocks [] ended (e + no_response)
+      told w t place holder stations entry b.began.accepted b.began.none b.ended b.found (suc (e + relay_wait)) cmd.channel e First settled blocks [] ended (e + no_response)
       came-then
       (unanswered-free w t place holder (c0 w t holder stations entry) b.began.none u cmd First afters
       (command_happens w t place holder stations entry b) (begun w t holder stations entry) came runs (inl waits) unowed soon ended refl refl

@@ -19,7 +19,6 @@ use Rattle.bus_model.specs.Standing.{is_owed}
 use Rattle.bus_model.specs.Starts.{Entry}
 use Rattle.bus_model.specs.Strikes.{ShownBurst, burst_end, ShownAnswer}
 use Rattle.bus_law_control.proofs.OwnChannel.{second-own}
-use Rattle.bus_law_messages.proofs.Sending.{shown-long}
 use Rattle.bus_law_stations.specs.Messages.{with_running}
 use Rattle.bus_law_stations.specs.Silence.{AwaitsSecond}
 use Rattle.bus_law_phases.specs.Answers.{burst_read, HoldsBesideShown, ShowsWhole, AnswerOver}
@@ -32,13 +31,14 @@ use Rattle.bus_law_told.specs.Tables.{MessageIs, first_shown, IsShownTo}
 use Rattle.bus_law_moments.specs.Told.{message_at, MessageTold}
 use Rattle.bus_law_told.proofs.Coming.{Came}
 use Rattle.bus_law_told.proofs.Ending.{told}
-use Rattle.bus_law_told.proofs.FirstShown.{shown-so, found, begins-first, over-first, came-after-first, waits-due, may-abandon, read-alike}
+use Rattle.bus_law_told.proofs.FirstShown.{shown-so, found, came-first, begins-first, over-first, came-after-first, waits-due, may-abandon, read-alike}
 use Rattle.bus_law_told.proofs.FirstAnswer.{stays, declines}
 use Rattle.bus_law_told.proofs.FirstClosed.{settled_now, blocks_now, after-command}
 use Rattle.bus_law_told.proofs.FirstDue as due
 use Rattle.bus_law_told.proofs.Known.{BeginsKept, c0, begun, command, ordered, attempt_begun}
 use Rattle.bus_law_told.proofs.TablesQuiet.{quiet-more}
 use Rattle.bus_law_told.proofs.Unanswered.{quiet-many, unanswered-came, unanswered-free, unanswered-course}
+use Rattle.bus_law_phases.proofs.Staying.{long-later}
 
 -- a second answer is awaited, after a first one with this status
 abbrev pub AwaitsAfter : Scenario → List Pair → Begun → ℕ → ℕ → Type 0
@@ -103,7 +103,7 @@ module _ (w : Scenario) (t place : ℕ) (holder : StationData) (stations : List 
 
   pub came-relayed : Came w t place holder start u first.burst.channel x Second settled relay_happens
   came-relayed =
-      let many : length (shown_at w d) ≡ d = shown-long w.lag w.plan w.loads w.outside w.absent d in
+      let many : length (shown_at w d) ≡ d = long-later w t d (came-first w t place holder stations entry b.base shape expects first shows).passage.later b.base.began.none in
       let same = so.start in
       subst (λ c. Came w t place holder start u c x Second settled relay_happens) (sym so.channel)
       (subst (λ atts. Came w t place holder start u cmd.channel x Second settled record {
@@ -155,7 +155,7 @@ module _ (w : Scenario) (t place : ℕ) (holder : StationData) (stations : List 
         MessageTold w t holder stations entry place b.base.ended b.base.found
     no-second-told is =
         let follows : burst_end cmd ≤ first.burst.start = after-command w t place holder stations entry b shape expects first shows in
-        told w t place holder stations entry b.base.began.accepted b.base.ended b.base.found (suc (x + relay_wait)) first.burst.channel x Second then_settled
+        told w t place holder stations entry b.base.began.accepted b.base.began.none b.base.ended b.base.found (suc (x + relay_wait)) first.burst.channel x Second then_settled
         blocks (first.burst ∷ [])
         ended (x + no_response) came-then
         (unanswered-free w t place holder start b.base.began.none v first.burst Second afters relay_happens opened came runs (inr awaits.0) unowed soon ended

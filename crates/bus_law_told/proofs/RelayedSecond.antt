@@ -20,7 +20,6 @@ use Rattle.bus_model.specs.Message.{Present, After, Delivered, answer_to, after_
 use Rattle.bus_model.specs.Starts.{Entry, usual, needed_quiet}
 use Rattle.bus_model.specs.Strikes.{hits_on, ShownBurst, burst_end, ShownAnswer, shown_answer}
 use Rattle.bus_law_duties.specs.Duties.{AreFree}
-use Rattle.bus_law_messages.proofs.Sending.{shown-long}
 use Rattle.bus_law_stations.specs.Messages.{with_running}
 use Rattle.bus_law_stations.specs.Silence.{AwaitsSecond}
 use Rattle.bus_law_phases.specs.Answers.{burst_read, HoldsBeside, HoldsBesideShown}
@@ -50,6 +49,7 @@ use Rattle.bus_law_told.proofs.TablesQuiet.{quiet-both}
 use Rattle.bus_law_told.proofs.TablesShown.{second-shown-to}
 use Rattle.bus_law_told.proofs.TablesTold.{with-stations}
 use Rattle.bus_law_told.proofs.Unanswered.{waiter-busy}
+use Rattle.bus_law_phases.proofs.Staying.{long-later}
 
 module _ (w : Scenario) (t place : ℕ) (holder : StationData) (stations : List Present) (entry : Entry) (b : BeginsKept w t place holder stations entry)
     (shape : Shape) (expects : (answers_of entry.item.kind).first ≡ Some shape) (first : ShownAnswer)
@@ -122,7 +122,7 @@ module _ (w : Scenario) (t place : ℕ) (holder : StationData) (stations : List 
 
   in-time : IsAnsweredInTime w (shown_at w d) holder first.burst.channel opened x
   in-time =
-      let many : length (shown_at w d) ≡ d = shown-long w.lag w.plan w.loads w.outside w.absent d in
+      let many : length (shown_at w d) ≡ d = long-later w t d here.passage.later b.base.began.none in
       let before = each.sent.before in record {
         at = record { holds = here.moment.holds; rests = here.moment.rests first.burst.channel };
         started = ap (λ (c : Course). c.runs) runs-here;
@@ -192,7 +192,7 @@ module _ (w : Scenario) (t place : ℕ) (holder : StationData) (stations : List 
         let follows : burst_end cmd ≤ first.burst.start = after-command w t place holder stations entry b shape expects first shows in
         let same = each.start in
         let after = each.sent.after in
-        told w t place holder stations entry b.base.began.accepted b.base.ended b.base.found (y + suc w.lag) first.burst.channel y Second again blocks
+        told w t place holder stations entry b.base.began.accepted b.base.began.none b.base.ended b.base.found (y + suc w.lag) first.burst.channel y Second again blocks
         (first.burst ∷ second.burst ∷ []) ended
         (y + w.lag) came-over all-free course-over b.base.began.held
         (with-stations (message_at w t holder stations entry) ended (y + w.lag) settled again blocks (cmd ∷ first.burst ∷ second.burst ∷ [])

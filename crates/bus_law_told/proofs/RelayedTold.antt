@@ -121,7 +121,7 @@ module _ (w : Scenario) (t place : ℕ) (holder : StationData) (stations : List 
     idle : NothingStarts w.lag (course_of w holder (shown_at w u)) (shown_at w u) (d - u)
     idle =
         let before = is.before in
-        waits-on w t place holder start b.base.began.none u (d - u) x opened (ap (λ (c : Course). c.runs) runs-there) (inr awaits-there.0)
+        waits-on w t place holder start b.base.began.none u (d - u) x opened came-there.passage.later (ap (λ (c : Course). c.runs) runs-there) (inr awaits-there.0)
         (omega (arith, late, before))
 
     goes : GoesOnTo w (shown_at w u) d
@@ -155,7 +155,7 @@ module _ (w : Scenario) (t place : ℕ) (holder : StationData) (stations : List 
 
       idle-mute : NothingStarts w.lag (course_of w holder (shown_at w d)) (shown_at w d) (suc w.lag)
       idle-mute =
-          waits-on w t place holder start b.base.began.none d (suc w.lag) x opened (ap (λ (c : Course). c.runs) runs-here) (inr awaits-here.0) soon
+          waits-on w t place holder start b.base.began.none d (suc w.lag) x opened here.passage.later (ap (λ (c : Course). c.runs) runs-here) (inr awaits-here.0) soon
 
       goes-mute : GoesOnTo w (shown_at w d) (d + suc w.lag)
       goes-mute =

@@ -13,7 +13,6 @@ use Rattle.bus_model.specs.Message.{Present, After, Delivered, answer_to, after_
 use Rattle.bus_model.specs.Starts.{Entry, needed_quiet}
 use Rattle.bus_model.specs.Strikes.{hits_on, ShownBurst, burst_end, Answer, ShownAnswer, shown_answer}
 use Rattle.bus_law_duties.specs.Duties.{AreFree}
-use Rattle.bus_law_messages.proofs.Sending.{shown-long}
 use Rattle.bus_law_stations.specs.Silence.{NothingStarts}
 use Rattle.bus_law_phases.specs.Answers.{burst_read, HoldsBeside, HoldsBesideShown}
 use Rattle.bus_law_phases.specs.Commands.{attempt_recorded}
@@ -41,6 +40,7 @@ use Rattle.bus_law_told.proofs.TablesFree.{settled-promise, again-stations, agai
 use Rattle.bus_law_told.proofs.TablesQuiet.{quiet-more, quiet-both}
 use Rattle.bus_law_told.proofs.TablesTold.{with-stations}
 use Rattle.bus_law_told.proofs.Unanswered.{closed-waits}
+use Rattle.bus_law_phases.proofs.Staying.{long-later}
 
 module _ (w : Scenario) (t place : ℕ) (holder : StationData) (stations : List Present) (entry : Entry) (b : BeginsKept w t place holder stations entry)
     (shape : Shape) (expects : (answers_of entry.item.kind).first ≡ Some shape) (first : ShownAnswer)
@@ -91,7 +91,7 @@ module _ (w : Scenario) (t place : ℕ) (holder : StationData) (stations : List 
     idle : NothingStarts w.lag (course_of w holder (shown_at w u)) (shown_at w u) (answer.start - u)
     idle =
         let before = is.before in
-        closed-waits w t place holder start b.base.began.none u (answer.start - u) x (suc (x + w.lag)) settling_quiet (ap (λ (d : Course). d.runs) closed-there)
+        closed-waits w t place holder start b.base.began.none u (answer.start - u) x (suc (x + w.lag)) settling_quiet came-there.passage.later (ap (λ (d : Course). d.runs) closed-there)
         (ap (λ (d : Course). d.opening) closed-there ∙ bad.opens opened.state.channel (x + w.lag)) came-there.quiet (omega (arith, late, before))
 
     goes : GoesOnTo w (shown_at w u) answer.start
@@ -121,7 +121,7 @@ module _ (w : Scenario) (t place : ℕ) (holder : StationData) (stations : List 
       idle-mute =
           let lag = b.base.began.lag in
           let before = is.before in
-          closed-waits w t place holder start b.base.began.none silent_from (suc w.lag) x (suc (x + w.lag)) settling_quiet
+          closed-waits w t place holder start b.base.began.none silent_from (suc w.lag) x (suc (x + w.lag)) settling_quiet came-second.passage.later
           (ap (λ (d : Course). d.runs) course-second)
           (ap (λ (d : Course). d.opening) course-second ∙ bad.opens opened.state.channel (x + w.lag)) came-second.quiet (omega (arith, lag, before))
 
@@ -151,7 +151,7 @@ module _ (w : Scenario) (t place : ℕ) (holder : StationData) (stations : List 
           let before = is.before in
           let after = is.after in
           let follows : burst_end cmd ≤ first.burst.start = after-command w t place holder stations entry b shape expects first shows in
-          told w t place holder stations entry b.base.began.accepted b.base.ended b.base.found (silent_from + suc w.lag) first.burst.channel x Second
+          told w t place holder stations entry b.base.began.accepted b.base.began.none b.base.ended b.base.found (silent_from + suc w.lag) first.burst.channel x Second
           (map answered settled)
           (blocks_now w t place holder stations entry b shape expects first shows) (first.burst ∷ []) ended (x + w.lag) came-muted
           (all-answered-free settled (settled-promise w.lag w.loads first.burst (ordered w t holder stations entry)))
@@ -188,7 +188,7 @@ module _ (w : Scenario) (t place : ℕ) (holder : StationData) (stations : List 
     rests-here =
         let lag = b.base.began.lag in
         let before = each.sent.before in
-        let many : length (shown_at w d) ≡ d = shown-long w.lag w.plan w.loads w.outside w.absent d in
+        let many : length (shown_at w d) ≡ d = long-later w t d here.passage.later b.base.began.none in
         closed-holds w (shown_at w d) holder first.burst.channel (burst_read second.burst) settling_quiet (suc (x + w.lag))
         (quiet.closed-waits w (shown_at w d) holder first.burst.channel start opened ended (x + w.lag) x (omega (arith, lag))
         record { holds = here.moment.holds; rests = here.moment.rests first.burst.channel } (course-second second.sent found each.sent)
@@ -228,7 +228,7 @@ module _ (w : Scenario) (t place : ℕ) (holder : StationData) (stations : List 
 
     came-over : CameWith blocks (b.base.found ++ first.burst ∷ second.burst ∷ []) attempts
     came-over =
-        let many : length (shown_at w d) ≡ d = shown-long w.lag w.plan w.loads w.outside w.absent d in
+        let many : length (shown_at w d) ≡ d = long-later w t d here.passage.later b.base.began.none in
         let same = each.start in
         subst (λ bs. CameWith bs (b.base.found ++ first.burst ∷ second.burst ∷ []) attempts)
         (ap (λ bs. blocks ++ bs) (again-blocks w.lag w.loads first.burst second.burst (ordered w t holder stations entry)) ∙ append-nil blocks)
@@ -258,7 +258,7 @@ module _ (w : Scenario) (t place : ℕ) (holder : StationData) (stations : List 
         let follows : burst_end cmd ≤ first.burst.start = after-command w t place holder stations entry b shape expects first shows in
         let same = each.start in
         let after = each.sent.after in
-        told w t place holder stations entry b.base.began.accepted b.base.ended b.base.found (y + suc w.lag) first.burst.channel y Second again
+        told w t place holder stations entry b.base.began.accepted b.base.began.none b.base.ended b.base.found (y + suc w.lag) first.burst.channel y Second again
         (blocks_now w t place holder stations entry b shape expects first shows) (first.burst ∷ second.burst ∷ []) ended (x + w.lag) came-over all-free
         course-over b.base.began.held
         (with-stations (message_at w t holder stations entry) ended (x + w.lag) settled again

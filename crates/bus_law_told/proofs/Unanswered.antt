@@ -20,21 +20,21 @@ use Rattle.bus_model.specs.Standing.{is_owed}
 use Rattle.bus_model.specs.Starts.{usual, start_of, needed_quiet, opening_after}
 use Rattle.bus_model.specs.Strikes.{ShownBurst, burst_end}
 use Rattle.bus_law_control.proofs.OwnChannel.{first-own, second-own}
-use Rattle.bus_law_messages.proofs.Sending.{shown-long}
 use Rattle.bus_law_stations.specs.Messages.{with_running}
 use Rattle.bus_law_stations.specs.Silence.{AwaitsFirst, AwaitsSecond, NothingStarts}
 use Rattle.bus_law_table.proofs.Quiet.{pairs-quiet, pairs-many}
 use Rattle.bus_law_phases.specs.Closings.{AwaitsAnswer, unanswered, attempt_ends}
 use Rattle.bus_law_phases.specs.Moments.{Underway, DutyLasts, LastsTo}
 use Rattle.bus_law_phases.specs.Passages.{Happening, Passage, followed_by, nothing_happens}
-use Rattle.bus_law_phases.specs.Scenarios.{Scenario, trace_at, shown_at, course_of, NoneTakesFrom}
+use Rattle.bus_law_phases.specs.Scenarios.{Scenario, trace_at, shown_at, course_of, StaysFrom}
 use Rattle.bus_law_phases.specs.Silences.{GoesOnTo, SomeoneIsBusy}
 use Rattle.bus_law_phases.proofs.Passing.{joined}
 use Rattle.bus_law_phases.proofs.SilencedEnd.{without-response}
 use Rattle.bus_law_phases.proofs.SilencedItems.{items-silence}
 use Rattle.bus_law_phases.proofs.SilencedPromises.{promises-over}
-use Rattle.bus_law_told.proofs.Coming.{Came, came-later, course-later, shown-later, none-later, nothing-after}
+use Rattle.bus_law_told.proofs.Coming.{Came, came-later, course-later, shown-later, nothing-after}
 use Rattle.bus_law_told.proofs.Ending.{starts-late}
+use Rattle.bus_law_phases.proofs.Staying.{long-later, stays-later}
 
 -- ---- waiting goes on in silence
 
@@ -77,12 +77,12 @@ all-last u e (a ∷ as_) none soon =
     All-cons (LastsTo u e) a as_ (duty-lasts u e a.station.plan a.duty (All-head (λ after. is_owed after.duty ≡ false) a as_ none) soon)
     (all-last u e as_ (All-tail (λ after. is_owed after.duty ≡ false) a as_ none) soon)
 
-module _ (w : Scenario) (t place : ℕ) (holder : StationData) (c0 : Course) (none : NoneTakesFrom w t) where
+module _ (w : Scenario) (t place : ℕ) (holder : StationData) (c0 : Course) (none : StaysFrom w t) where
   -- a controller that waits starts nothing before its wait is over
-  pub waits-on : (u n e : ℕ) (begun : Begun) → (course_of w holder (shown_at w u)).runs ≡ Some begun → AwaitsOne w (shown_at w u) begun e →
+  pub waits-on : (u n e : ℕ) (begun : Begun) → t ≤ u → (course_of w holder (shown_at w u)).runs ≡ Some begun → AwaitsOne w (shown_at w u) begun e →
       u + n ≤ e + no_response → NothingStarts w.lag (course_of w holder (shown_at w u)) (shown_at w u) n
-  waits-on u n e begun runs waits soon =
-      let many : length (shown_at w u) ≡ u = shown-long w.lag w.plan w.loads w.outside w.absent u in record {
+  waits-on u n e begun up runs waits soon =
+      let many : length (shown_at w u) ≡ u = long-later w t u up none in record {
         waits = λ b is. (
           e,
           subst (λ (x : Begun). AwaitsOne w (shown_at w u) x e) (same_Some begun b (sym runs ∙ is)) waits,
@@ -92,12 +92,12 @@ module _ (w : Scenario) (t place : ℕ) (holder : StationData) (c0 : Course) (no
       }
 
   -- one that closed its message waits for the quiet that it needs
-  pub closed-waits : (u n e tick need : ℕ) → (course_of w holder (shown_at w u)).runs ≡ None →
+  pub closed-waits : (u n e tick need : ℕ) → t ≤ u → (course_of w holder (shown_at w u)).runs ≡ None →
       (course_of w holder (shown_at w u)).opening ≡ usual need tick → quiet_from (shown_at w u) ≡ e → u + n ≤ e + need →
       NothingStarts w.lag (course_of w holder (shown_at w u)) (shown_at w u) n
-  closed-waits u n e tick need idle opens quiet soon =
+  closed-waits u n e tick need up idle opens quiet soon =
       let c = course_of w holder (shown_at w u) in
-      let many : length (shown_at w u) ≡ u = shown-long w.lag w.plan w.loads w.outside w.absent u in record {
+      let many : length (shown_at w u) ≡ u = long-later w t u up none in record {
         waits = λ b is. absurd (none-some b (sym idle ∙ is));
         starts = λ unused holds next later left.
             let late : (u + n) + 0 ≤ start_of (usual need tick) c.retry c.origin next e = starts-late c.retry c.origin next need tick e (u + n) soon in
@@ -132,7 +132,7 @@ module _ (w : Scenario) (t place : ℕ) (holder : StationData) (c0 : Course) (no
     still-runs = ap (λ (d : Course). d.runs) runs
 
     idle : NothingStarts w.lag (course_of w holder (shown_at w u)) (shown_at w u) n
-    idle = waits-on u n e begun still-runs waits (omega (arith, u_soon))
+    idle = waits-on u n e begun came.passage.later still-runs waits (omega (arith, u_soon))
 
     lasts : All (LastsTo (u + n) e) afters
     lasts = all-last (u + n) e afters unowed (omega (arith, u_soon))
@@ -179,7 +179,7 @@ module _ (w : Scenario) (t place : ℕ) (holder : StationData) (c0 : Course) (no
     ends-now =
         subst EndsAs awaited-at.same
         (without-response w last place holder burst.channel e part afters begun waited.moment awaits-now refl
-        (all-last (suc last) e afters unowed (omega arith)) (none-later w t last waited.passage.later none))
+        (all-last (suc last) e afters unowed (omega arith)) (stays-later w t last waited.passage.later none))
 
     closed-came : Came w t place holder c0 (suc last) burst.channel e part afters h_closed
     closed-came = record {
@@ -196,7 +196,7 @@ module _ (w : Scenario) (t place : ℕ) (holder : StationData) (c0 : Course) (no
 
     closed-idle : (m : ℕ) → suc last + m ≤ e + 40 → NothingStarts w.lag (course_of w holder (shown_at w (suc last))) (shown_at w (suc last)) m
     closed-idle m soon =
-        closed-waits (suc last) m e (suc last) (needed_quiet ended.outcome) (ap (λ (d : Course). d.runs) closed-course)
+        closed-waits (suc last) m e (suc last) (needed_quiet ended.outcome) closed-came.passage.later (ap (λ (d : Course). d.runs) closed-course)
         (ap (λ (d : Course). d.opening) closed-course ∙ opens) closed-came.quiet (omega (arith, soon, needs))
 
     closed-goes : GoesOnTo w (shown_at w (suc last)) (suc last + 5)
@@ -224,7 +224,7 @@ module _ (w : Scenario) (t place : ℕ) (holder : StationData) (c0 : Course) (no
 
     quiet-idle : NothingStarts w.lag (course_of w holder (shown_at w end)) (shown_at w end) 1
     quiet-idle =
-        closed-waits end 1 e (suc last) (needed_quiet ended.outcome) (ap (λ (d : Course). d.runs) quiet-course)
+        closed-waits end 1 e (suc last) (needed_quiet ended.outcome) quiet-came.passage.later (ap (λ (d : Course). d.runs) quiet-course)
         (ap (λ (d : Course). d.opening) quiet-course ∙ opens) quiet-came.quiet (omega (arith, needs))
 
     quiet-goes : GoesOnTo w (shown_at w end) (suc end)
@@ -237,7 +237,7 @@ module _ (w : Scenario) (t place : ℕ) (holder : StationData) (c0 : Course) (no
         × All (λ after. after.duty ≡ free) settled × (course_of w holder (shown_at w (suc end)) ≡ course_of w holder (shown_at w end))
         × (quiet_from (shown_at w (suc end)) ≡ quiet_from (shown_at w end)) × Passage w end (suc end) nothing_happens
     run-out =
-        promises-over w end place holder burst e part afters quiet-came.moment refl unowed quiet-idle (none-later w t end quiet-came.passage.later none)
+        promises-over w end place holder burst e part afters quiet-came.moment refl unowed quiet-idle (stays-later w t end quiet-came.passage.later none)
         quiet-goes
 
     pub unanswered-came : Came w t place holder c0 (suc end) burst.channel e part settled h_closed

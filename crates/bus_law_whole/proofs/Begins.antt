@@ -1,6 +1,5 @@
 -- The next message of a run begins, from whatever moment, and is told.
 use Rattle.std.proofs.Common.{◌≡◌, inl, inr, ℕ, ◌+◌, ◌-◌, ◌≤◌, true, List, [], ◌∷◌, ◌++◌, length, Option, Some, None, refl, sym, ap, ◌∙◌, subst, arith}
-use Rattle.std.proofs.lemmas.List.Elements.{recursion_from_All}
 use Rattle.std.proofs.lemmas.Option.{same_Some}
 use Rattle.std.specs.Prelude.{not, ◌&&◌, ◌||◌, is_none, ◌==◌, IfSome, IsSomeAnd}
 use Rattle.std.specs.List.{AllByRecursion as Each}
@@ -8,7 +7,7 @@ use Rattle.bus_base.specs.Samples.{other_of}
 use Rattle.bus_base.specs.declared.samples.Pair.{Pair}
 use Rattle.bus_base.specs.declared.samples.Channel.{Channel}
 use Rattle.bus_formats.specs.Accepted.{HasTerminalRanges, HasStationRanges, HasSuperseding, Supersedes}
-use Rattle.bus_formats.specs.Plans.{StationData}
+use Rattle.bus_formats.specs.Plans.{StationData, PlanData}
 use Rattle.bus_formats.specs.Times.{taking_over}
 use Rattle.bus_retry.specs.declared.RetryState.{RetryState}
 use Rattle.bus_model.specs.Attempts.{Begun}
@@ -18,8 +17,7 @@ use Rattle.bus_model.specs.Run.{Run, Next, next_item}
 use Rattle.bus_model.specs.Starts.{Entry, Opening, superseding, taking, Origin, has_items, start_of, state_of}
 use Rattle.bus_model.specs.Strikes.{ShownBurst, ShownAnswer}
 use Rattle.bus_law_messages.specs.Settled.{NoneStarts}
-use Rattle.bus_law_messages.proofs.Sending.{shown-long}
-use Rattle.bus_law_plans.specs.Entries.{items_of, IsEntryOf, IsStationOf, IsRunOf, IsNext, IsSupersededNext, KeepsSuperseding}
+use Rattle.bus_law_plans.specs.Entries.{items_of, IsEntryOf, AreNamedApart, IsStationOf, IsRunAmong, IsNext, IsSupersededNext, KeepsSuperseding}
 use Rattle.bus_law_plans.specs.Memories.{HasWordRanges, KeepsWordRanges}
 use Rattle.bus_law_plans.specs.Sent.{begun_of}
 use Rattle.bus_law_plans.proofs.Lists.{each-both, zip-with, zip-second}
@@ -27,7 +25,7 @@ use Rattle.bus_law_plans.proofs.Nexts.{next-of}
 use Rattle.bus_law_stations.specs.Messages.{message_begun}
 use Rattle.bus_law_phases.specs.Commands.{begun_at, command_at}
 use Rattle.bus_law_phases.specs.Passages.{Passage, nothing_happens}
-use Rattle.bus_law_phases.specs.Scenarios.{Scenario, shown_at, course_of, NoneTakesFrom}
+use Rattle.bus_law_phases.specs.Scenarios.{Scenario, shown_at, course_of, StaysFrom}
 use Rattle.bus_law_phases.specs.Silences.{SomeoneIsBusy}
 use Rattle.bus_law_phases.proofs.Passing.{none-passed}
 use Rattle.bus_law_phases.proofs.SilencedRest.{rest-lasts}
@@ -35,31 +33,43 @@ use Rattle.bus_law_moments.specs.Begun.{IsRanged, MessageBegan}
 use Rattle.bus_law_moments.specs.Doubts.{attempt_yielded}
 use Rattle.bus_law_moments.specs.Told.{IsTold}
 use Rattle.bus_law_moments.proofs.Rests.{began-rested}
-use Rattle.bus_law_run.specs.WholeRun.{IsAcceptedScenario}
+use Rattle.bus_law_run.specs.WholeRun.{IsAcceptedBus}
 use Rattle.bus_law_run.proofs.OwnStation.{stations-apart}
 use Rattle.bus_law_run.proofs.Shows.{shows-later}
 use Rattle.bus_law_whole.specs.Messages.{shown_in_order, StartsMessage, MessagesAreTold}
-use Rattle.bus_law_whole.specs.RunStands.{IsBetween, IsBetweenInDoubt, IsBeside, RunStands}
+use Rattle.bus_law_whole.specs.RunStands.{IsBetween, IsBetweenInDoubt, IsBeside, RunStands, MayGoOn}
 use Rattle.bus_law_whole.proofs.HasBegun.{HasBegun}
 use Rattle.bus_law_whole.proofs.MomentStation.{IsFound, found-in}
+use Rattle.bus_law_phases.proofs.Staying.{long-at, long-later, stays-later}
 
 -- the ticks from one to a later one
 between : (t s : ℕ) → t ≤ s → t + (s - t) ≡ s
 between t s later = omega (arith, later)
 
 -- the stations of a run are in the ranges of its plan
-stations-ranged : (w : Scenario) (run : Run) → IsAcceptedScenario w → IsRunOf w.plan run → KeepsWordRanges run → Each IsRanged run.stations
-stations-ranged w run is of words =
+stations-ranged : (plan : PlanData) (own : List StationData) (run : Run) → Each HasStationRanges own → IsRunAmong plan own run → KeepsWordRanges run →
+    Each IsRanged run.stations
+stations-ranged plan own run ranges of words =
     let Planned : Present → Type 0 = λ s. HasTerminalRanges s.plan.terminal in
-    let Of : StationData → Present → Type 0 = λ own s. IsStationOf w.plan (not (own.terminal.address == run.holder)) own s in
-    let Beneath : StationData → Present → Type 0 = λ own s. Planned s in
+    let Of : StationData → Present → Type 0 = λ o s. IsStationOf plan (not (o.terminal.address == run.holder)) o s in
+    let Beneath : StationData → Present → Type 0 = λ o s. Planned s in
     each-both Planned HasWordRanges IsRanged (λ s planned word. (planned, word)) run.stations
-    (zip-second Beneath Planned (λ own s planned. planned) w.plan.stations run.stations
-    (zip-with HasStationRanges Of Beneath (λ own s ranges at. subst (λ (p : StationData). HasTerminalRanges p.terminal) (sym at.plan_is) ranges.terminal)
-    w.plan.stations run.stations (recursion_from_All HasStationRanges w.plan.stations is.accepted.ranges) of.stations)) words
+    (zip-second Beneath Planned (λ o s planned. planned) own run.stations
+    (zip-with HasStationRanges Of Beneath (λ o s ranged at. subst (λ (p : StationData). HasTerminalRanges p.terminal) (sym at.plan_is) ranged.terminal)
+    own run.stations ranges of.stations)) words
 
-module _ (w : Scenario) (is : IsAcceptedScenario w) (tells : MessagesAreTold w) (t : ℕ) (run : Run) (next : Next) (of : IsRunOf w.plan run)
-    (ranges : KeepsWordRanges run) (keeps : KeepsSuperseding run) (stands : RunStands w t run) (given : next_item run ≡ Some next) where
+-- a run by stations of the plan may go on
+pub may-go-on : (w : Scenario) (own : List StationData) (run : Run) → AreNamedApart own → Each HasStationRanges own → IsRunAmong w.plan own run →
+    KeepsWordRanges run → KeepsSuperseding run → MayGoOn w run
+may-go-on w own run apart ranges of words keeps = record {
+  next = λ next given. next-of w.plan run next of given;
+  apart = stations-apart w.plan run own of apart;
+  ranged = stations-ranged w.plan own run ranges of words;
+  superseding = keeps;
+}
+
+module _ (w : Scenario) (is : IsAcceptedBus w) (tells : MessagesAreTold w) (t : ℕ) (run : Run) (next : Next) (stays : StaysFrom w t)
+    (fit : MayGoOn w run) (stands : RunStands w t run) (given : next_item run ≡ Some next) where
   abbrev place : ℕ
   place = stands.place
 
@@ -75,7 +85,7 @@ module _ (w : Scenario) (is : IsAcceptedScenario w) (tells : MessagesAreTold w) 
   -- ---- the next item
 
   next-is : IsNext w.plan run next
-  next-is = next-of w.plan run next of given
+  next-is = fit.next next given
 
   own : IsFound w is.accepted t place holder run stands.pending stands.holder_is
   own = found-in w is.accepted t place holder run stands.pending stands.holder_is stands.moment
@@ -95,15 +105,12 @@ module _ (w : Scenario) (is : IsAcceptedScenario w) (tells : MessagesAreTold w) 
   followed : HasSuperseding (items_of (next.entry ∷ next-is.later))
   followed = subst (λ (l : List Entry). HasSuperseding (items_of l)) next-is.left next-is.is.superseding
 
-  stays : (u : ℕ) → NoneTakesFrom w u
-  stays u other st at tick low = is.stays other st at tick (omega arith)
-
   -- ---- it starts in a tick u, in which the course is as it was
 
-  starts-message : (u : ℕ) → (course_of w holder (shown_at w u)).holds ≡ true → (course_of w holder (shown_at w u)).runs ≡ None →
+  starts-message : (u : ℕ) → t ≤ u → (course_of w holder (shown_at w u)).holds ≡ true → (course_of w holder (shown_at w u)).runs ≡ None →
       course_of w holder (shown_at w u) ≡ c → start_of c.opening c.retry c.origin next.entry (quiet_from (shown_at w u)) ≡ u →
       StartsMessage w u holder run.stations next.entry
-  starts-message u holds idle course starts = record {
+  starts-message u up holds idle course starts = record {
     entry_of = entry-of;
     starts = record {
       holds = holds;
@@ -111,10 +118,11 @@ module _ (w : Scenario) (is : IsAcceptedScenario w) (tells : MessagesAreTold w) 
       later = next-is.later;
       left = ap (λ (d : Course). d.left) course ∙ left;
       starts = ap (λ (d : Course). start_of d.opening d.retry d.origin next.entry (quiet_from (shown_at w u))) course ∙ starts
-          ∙ sym (shown-long w.lag w.plan w.loads w.outside w.absent u);
+          ∙ sym (long-later w t u up stays);
     };
-    apart = stations-apart w.plan run of is.accepted;
-    ranged = stations-ranged w run is of ranges;
+    stays = stays-later w t u up stays;
+    apart = fit.apart;
+    ranged = fit.ranged;
   }
 
   -- the attempt by what it waits for
@@ -162,7 +170,7 @@ module _ (w : Scenario) (is : IsAcceptedScenario w) (tells : MessagesAreTold w) 
   start = start_of c.opening c.retry c.origin next.entry (quiet_from past)
 
   early : t ≤ start
-  early = let low = stands.early next.entry next-is.later left in omega (arith, low, shown-long w.lag w.plan w.loads w.outside w.absent t)
+  early = let low = stands.early next.entry next-is.later left in omega (arith, low, long-at w t stays)
 
   abbrev n : ℕ
   n = start - t
@@ -188,7 +196,7 @@ module _ (w : Scenario) (is : IsAcceptedScenario w) (tells : MessagesAreTold w) 
   waits entry later here =
       let same : next.entry ≡ entry = same-first next.entry entry next-is.later later left here in
       subst (λ (e : Entry). length past + n ≤ start_of c.opening c.retry c.origin e (quiet_from past)) same
-      (omega (arith, shown-long w.lag w.plan w.loads w.outside w.absent t, then))
+      (omega (arith, long-at w t stays, then))
 
   begins-between : IsBetween w t place holder run stands.pending → Begins
   begins-between moment =
@@ -199,10 +207,10 @@ module _ (w : Scenario) (is : IsAcceptedScenario w) (tells : MessagesAreTold w) 
         busy = ap (λ b. not b || (is_none c.runs && not (has_items c.left))) moment.rested.holds
             ∙ ap (λ o. is_none o && not (has_items c.left)) moment.rested.idle ∙ ap (λ l. not (has_items l)) left;
       } in
-      let paused = rest-lasts w t n place holder run.stations moment.rested waits (stays t) (inl busy) in
-      let starts = starts-message u paused.1.holds paused.1.idle paused.2 (ap (start_of c.opening c.retry c.origin next.entry) paused.3 ∙ sym then) in
+      let paused = rest-lasts w t n place holder run.stations moment.rested waits stays (inl busy) in
+      let starts = starts-message u (omega arith) paused.1.holds paused.1.idle paused.2 (ap (start_of c.opening c.retry c.origin next.entry) paused.3 ∙ sym then) in
       let began : MessageBegan w u holder next.entry place run.stations [] (command ∷ []) =
-      began-rested w u place holder run.stations next.entry is.lag is.accepted is.blocks entry-of paused.1 starts.starts (stays u) starts.apart starts.ranged in
+      began-rested w u place holder run.stations next.entry is.lag is.accepted is.blocks entry-of paused.1 starts.starts starts.stays starts.apart starts.ranged in
       has-begun u (command ∷ []) (omega arith) paused.2 paused.4
       (ap (start_of c.opening c.retry c.origin next.entry) (sym moment.since.quiet) ∙ sym then) (one-found moment.runs_on)
       (subst (λ p. IsTold w u holder run.stations next.entry place p (command ∷ [])) (sym moment.pending_is)
@@ -217,9 +225,9 @@ module _ (w : Scenario) (is : IsAcceptedScenario w) (tells : MessagesAreTold w) 
   begins-in-doubt moment =
       let x : ℕ = moment.x in
       let at : start ≡ x + taking_over = starts-by c.opening (x + taking_over) (quiet_from past) moment.rested.takes in
-      let lasts = tells.doubt_lasts t n place holder run.stations moment.begun x moment.rested (omega (arith, then, at)) in
+      let lasts = tells.doubt_lasts t n place holder run.stations moment.begun x moment.rested stays (omega (arith, then, at)) in
       let later : x + taking_over ≡ u = sym at ∙ sym then in
-      let starts = starts-message u lasts.moment.holds lasts.moment.idle lasts.course
+      let starts = starts-message u (omega arith) lasts.moment.holds lasts.moment.idle lasts.course
       (starts-by c.opening (x + taking_over) (quiet_from (shown_at w u)) moment.rested.takes ∙ later) in
       let yields : attempt_yielded lasts.moment.offerer moment.begun x ∷ [] ≡ stands.pending =
       ap (λ (s : StationData). attempt_yielded s moment.begun x ∷ []) lasts.offerer_is ∙ sym moment.pending_is in
@@ -241,7 +249,7 @@ module _ (w : Scenario) (is : IsAcceptedScenario w) (tells : MessagesAreTold w) 
 
   supersedes : (old : ShownAnswer) → run.runs_on ≡ Some old → Supersedes old.sent.address next.entry.item.kind
   supersedes old on =
-      let known : IsSupersededNext run old = subst (λ o. IfSome o (λ answer. IsSupersededNext run answer)) on keeps.followed in
+      let known : IsSupersededNext run old = subst (λ o. IfSome o (λ answer. IsSupersededNext run answer)) on fit.superseding.followed in
       supersedes-by (next_item run) old given known.next
 
   begins-beside : IsBeside w t place holder run stands.pending → Begins
@@ -250,7 +258,7 @@ module _ (w : Scenario) (is : IsAcceptedScenario w) (tells : MessagesAreTold w) 
       let channel : Channel = other_of old.sent.channel in
       let first : ShownBurst = command_at w t t holder next.entry in
       let found : List ShownBurst = shown_in_order (abandoned_bursts (Some old) first ++ first ∷ []) in
-      let starts = starts-message t moment.beside.holds moment.beside.idle refl (starts-at c.opening t (quiet_from past) channel moment.beside.opens) in
+      let starts = starts-message t (omega arith) moment.beside.holds moment.beside.idle refl (starts-at c.opening t (quiet_from past) channel moment.beside.opens) in
       let told : IsTold w t holder run.stations next.entry place [] found =
       elim (tells.begins_beside t place holder run.stations next.entry old moment.beside starts (supersedes old moment.runs_on)) [
         | inl began ↦ tells.told t place holder run.stations next.entry next-is.later [] found followed began

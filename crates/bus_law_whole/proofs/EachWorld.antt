@@ -9,4 +9,4 @@ use Rattle.bus_law_whole.proofs.MessagesTold.{messages-told}
 use Rattle.bus_law_whole.proofs.WholeRun.{world-is-run}
 
 pub each-world : (plan : PlanData) → IsAccepted plan → next_item (plan_run plan) ≡ None → WorldIsRun plan
-each-world plan accepted = world-is-run plan accepted (messages-told (plan_scenario plan) (plan-scenario plan accepted))
+each-world plan accepted = world-is-run plan accepted (messages-told (plan_scenario plan) (plan-scenario plan accepted).bus)

@@ -6,7 +6,11 @@ pub mod MomentStation
 pub mod HasBegun
 pub mod NextStands
 pub mod Begins
+pub mod Present
 pub mod EachStands
+pub mod Changing
+pub mod Leaving
+pub mod Uncontrolled
 pub mod AcceptsAlone
 pub mod TicksHeard
 pub mod MessagesTold

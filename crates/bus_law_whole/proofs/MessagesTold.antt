@@ -1,5 +1,5 @@
 -- The messages of a bus are told, from the laws of each sort of them.
-use Rattle.std.proofs.Common.{◌≡◌, ◌⊎◌, inl, inr, ℕ, ◌+◌, ◌≤◌, Bool, List, [], ◌∷◌, refl, ap, subst, arith}
+use Rattle.std.proofs.Common.{◌≡◌, ◌⊎◌, inl, inr, ℕ, ◌+◌, ◌≤◌, Bool, List, [], ◌∷◌, refl, ap, subst}
 use Rattle.std.specs.Prelude.{◌&&◌, ◌||◌, ◌==◌, nat_lt, if◌then◌else◌}
 use Rattle.bus_base.specs.Samples.{same_channel}
 use Rattle.bus_base.specs.declared.samples.Channel.{Channel}
@@ -15,7 +15,7 @@ use Rattle.bus_model.specs.Starts.{Entry}
 use Rattle.bus_model.specs.Strikes.{ShownBurst, burst_end, ShownAnswer, beside_command}
 use Rattle.bus_law_plans.specs.Entries.{items_of}
 use Rattle.bus_law_phases.specs.Commands.{command_at}
-use Rattle.bus_law_phases.specs.Scenarios.{Scenario, trace_at, NoneTakesFrom}
+use Rattle.bus_law_phases.specs.Scenarios.{Scenario, trace_at, StaysFrom}
 use Rattle.bus_law_moments.specs.Begun.{MessageBegan}
 use Rattle.bus_law_moments.specs.Doubts.{RestedInDoubt, attempt_yielded}
 use Rattle.bus_law_moments.specs.OldAnswers.{BesideOldAnswer}
@@ -27,7 +27,7 @@ use Rattle.bus_law_beside.specs.Beside.{by_ends, BeginsBeside}
 use Rattle.bus_law_offers.proofs.DoubtCommand.{began-in-doubt}
 use Rattle.bus_law_offers.proofs.DoubtLasts.{doubt-lasts}
 use Rattle.bus_law_offers.proofs.OfferTold.{message-told}
-use Rattle.bus_law_run.specs.WholeRun.{IsAcceptedScenario}
+use Rattle.bus_law_run.specs.WholeRun.{IsAcceptedBus}
 use Rattle.bus_law_whole.specs.Messages.{shown_in_order, found_beside, StartsMessage, DoubtLasts, MessagesAreTold}
 
 -- ---- a message that began
@@ -56,15 +56,12 @@ found-same old command =
 
 -- ---- all of them
 
-module _ (w : Scenario) (is : IsAcceptedScenario w) where
-  stays : (t : ℕ) → NoneTakesFrom w t
-  stays t other st at tick low = is.stays other st at tick (omega arith)
-
+module _ (w : Scenario) (is : IsAcceptedBus w) where
   lasts : (t n place : ℕ) (holder : StationData) (stations : List Present) (begun : Begun) (x : ℕ)
-      (moment : RestedInDoubt w (trace_at w t) place holder stations begun x) → t + n ≤ x + taking_over →
+      (moment : RestedInDoubt w (trace_at w t) place holder stations begun x) → StaysFrom w t → t + n ≤ x + taking_over →
       DoubtLasts w t n place holder stations begun x moment.offerer
-  lasts t n place holder stations begun x moment soon =
-      let still = doubt-lasts w t n place holder stations begun x moment soon (stays t) in record {
+  lasts t n place holder stations begun x moment stays soon =
+      let still = doubt-lasts w t n place holder stations begun x moment soon stays in record {
         quiet = still.0;
         moment = still.1.0;
         offerer_is = still.1.1;
@@ -76,7 +73,7 @@ module _ (w : Scenario) (is : IsAcceptedScenario w) where
       (moment : RestedInDoubt w (trace_at w t) place holder stations begun x) → StartsMessage w t holder stations entry →
       MessageBegan w t holder entry place stations (attempt_yielded moment.offerer begun x ∷ []) (command_at w t t holder entry ∷ [])
   in-doubt t place holder stations entry begun x moment starts =
-      began-in-doubt w t place holder stations begun x entry is.lag is.accepted is.blocks starts.entry_of moment starts.starts (stays t) starts.apart starts.ranged
+      began-in-doubt w t place holder stations begun x entry is.lag is.accepted is.blocks starts.entry_of moment starts.starts starts.stays starts.apart starts.ranged
 
   -- ---- beside an abandoned answer
 
@@ -94,7 +91,6 @@ module _ (w : Scenario) (is : IsAcceptedScenario w) where
       entry_of = starts.entry_of;
       beside = beside;
       begins = starts.starts;
-      none = stays old.sent.start;
       apart = starts.apart;
       ranged = starts.ranged;
       supersedes = supersedes;

@@ -14,7 +14,7 @@ use Rattle.bus_law_listing.specs.Listing.{burst_found, found_in_order}
 use Rattle.bus_law_listing.proofs.Found.{found-joined}
 use Rattle.bus_law_phases.specs.Commands.{attempt_recorded}
 use Rattle.bus_law_phases.specs.Passages.{Passage}
-use Rattle.bus_law_phases.specs.Scenarios.{Scenario, shown_at, attempts_in}
+use Rattle.bus_law_phases.specs.Scenarios.{Scenario, shown_at, attempts_in, blocks_in}
 use Rattle.bus_law_run.specs.RunShows.{RunShows}
 use Rattle.bus_law_run.proofs.Shows.{orderly-later}
 
@@ -49,10 +49,10 @@ module _ (w : Scenario) (t u : ℕ) (run : Run) (begun : Begun) (m : Message) (p
   abbrev this : Attempt
   this = attempt_recorded run.holder begun m.ending.ended m.ending.tick
 
-  attempts-are : attempts_in w (shown_at w u) ++ after ≡ reverse (with_attempt run begun m).attempts
+  attempts-are : (w.earlier.attempts ++ (shows.ended ++ ended)) ++ after ≡ reverse (with_attempt run begun m).attempts
   attempts-are =
-      let before : List Attempt = attempts_in w (shown_at w t) in
-      ap (λ xs. xs ++ after) passage.attempts_are
+      let before : List Attempt = w.earlier.attempts ++ shows.ended in
+      ap (λ xs. xs ++ after) (sym (append_assoc w.earlier.attempts shows.ended ended))
       ∙ append_assoc before ended after
       ∙ ap (λ xs. before ++ xs) attempt
       ∙ sym (append_assoc before pending (this ∷ []))
@@ -69,9 +69,16 @@ module _ (w : Scenario) (t u : ℕ) (run : Run) (begun : Begun) (m : Message) (p
 
   pub more-shown : RunShows w u (with_attempt run begun m) after
   more-shown = record {
+    ended = shows.ended ++ ended;
+    ended_since = passage.attempts_are ∙ ap (λ xs. xs ++ ended) shows.ended_since
+        ∙ append_assoc (attempts_in w (shown_at w w.earlier.ticks)) shows.ended ended;
     attempts_are = attempts-are;
     bursts_are = bursts-are;
-    blocks_are = passage.blocks_are ∙ ap (λ xs. xs ++ m.deliveries) shows.blocks_are ∙ sym (in-order m.deliveries run.deliveries);
+    taken = shows.taken ++ m.deliveries;
+    taken_since = passage.blocks_are ∙ ap (λ xs. xs ++ m.deliveries) shows.taken_since
+        ∙ append_assoc (blocks_in w (shown_at w w.earlier.ticks)) shows.taken m.deliveries;
+    blocks_are = sym (append_assoc w.earlier.blocks shows.taken m.deliveries) ∙ ap (λ xs. xs ++ m.deliveries) shows.blocks_are
+        ∙ sym (in-order m.deliveries run.deliveries);
     counted = let before = shows.counted in let more = passage.counted in omega (arith, before, more);
-    orderly = orderly-later w t u shows.orderly passage.orderly;
+    orderly = orderly-later w w.earlier.ticks t u shows.orderly passage.orderly;
   }

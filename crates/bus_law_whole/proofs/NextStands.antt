@@ -97,10 +97,14 @@ module _ (w : Scenario) (now place : ℕ) (holder : StationData) (run : Run) (ne
         ap (λ (f : List ShownBurst). quiet_after (f ++ shows.answers)) has.found_is ∙ quiet-same run.runs_on command shows.answers
         ∙ ap quiet_after (sym bursts-are)
 
+    over-soon : (station : StationData) → WaitsFor w now holder run.stations next.entry over station (found ++ shows.answers) →
+        over ≤ r.quiet_from + ending_quiet
+    over-soon station waits = subst (λ (q : ℕ). over ≤ q + ending_quiet) quiet-is waits.soon
+
     since : (station : StationData) → WaitsFor w now holder run.stations next.entry over station (found ++ shows.answers) → IsQuietSince w over r
     since station waits = record {
       quiet = waits.quiet ∙ quiet-is;
-      soon = subst (λ (q : ℕ). over ≤ q + ending_quiet) quiet-is waits.soon;
+      soon = λ none. over-soon station waits;
     }
 
   -- ---- the run after it
@@ -178,7 +182,7 @@ module _ (w : Scenario) (now place : ℕ) (holder : StationData) (run : Run) (ne
           rested = subst (Rested w (trace_at w t.over) t.to t.taker) (passed-are t.taker.terminal.address) t.rested;
           runs_on = t.runs_on;
           pending_is = refl;
-          since = record { quiet = quiet.quiet; soon = quiet.soon };
+          since = record { quiet = quiet.quiet; soon = λ none. over-soon t.over _ [] t.shows ended-with t.taker t.waits };
         };
   }
 
@@ -213,7 +217,10 @@ module _ (w : Scenario) (now place : ℕ) (holder : StationData) (run : Run) (ne
           rested = doubt.0;
           runs_on = t.runs_on;
           pending_is = ap (λ (s : StationData). attempt_yielded s begun t.x ∷ []) (sym doubt.1);
-          since = record { quiet = quiet.quiet; soon = quiet.soon };
+          since = record {
+            quiet = quiet.quiet;
+            soon = λ none. over-soon t.over pending (attempt_yielded t.rested.offerer begun t.x ∷ []) t.shows whole t.taker t.waits;
+          };
         });
       }
 

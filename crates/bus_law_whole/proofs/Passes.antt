@@ -47,8 +47,12 @@ pub passed-shows : (w : Scenario) (t : ℕ) (run : Run) (pending : List Attempt)
     RunShows w t (pass_control passes run) pending
 passed-shows w t run pending None shows = shows
 passed-shows w t run pending (Some passing) shows = record {
+  ended = shows.ended;
+  ended_since = shows.ended_since;
   attempts_are = shows.attempts_are;
   bursts_are = shows.bursts_are;
+  taken = shows.taken;
+  taken_since = shows.taken_since;
   blocks_are = shows.blocks_are;
   counted = shows.counted;
   orderly = shows.orderly;

@@ -16,7 +16,7 @@ use Rattle.bus_law_plans.specs.Entries.{items_of, IsEntryOf}
 use Rattle.bus_law_stations.specs.Messages.{BeginsMessage}
 use Rattle.bus_law_phases.specs.Commands.{command_at}
 use Rattle.bus_law_phases.specs.Passages.{Passage, nothing_happens}
-use Rattle.bus_law_phases.specs.Scenarios.{Scenario, trace_at, shown_at, course_of}
+use Rattle.bus_law_phases.specs.Scenarios.{Scenario, trace_at, shown_at, course_of, StaysFrom}
 use Rattle.bus_law_moments.specs.Begun.{IsRanged, MessageBegan}
 use Rattle.bus_law_moments.specs.Doubts.{RestedInDoubt, attempt_yielded}
 use Rattle.bus_law_moments.specs.OldAnswers.{BesideOldAnswer}
@@ -27,10 +27,12 @@ abbrev pub shown_in_order : List ShownBurst → List ShownBurst
 shown_in_order shown = in_order burst_end (λ burst. burst.channel) shown
 
 module _ (w : Scenario) where
-  -- the station in control begins its next message in tick t; its item is one of the plan, and the stations of the table are in their ranges
+  -- the station in control begins its next message in tick t; its item is one of the plan, and the stations of the table are in their ranges. From then on
+  -- the same stations are there
   pub record StartsMessage (t : ℕ) (holder : StationData) (stations : List Present) (entry : Entry) : Type 0 where
     pub entry_of : IsEntryOf w.plan holder.terminal.address entry
     pub starts : BeginsMessage (course_of w holder (shown_at w t)) (shown_at w t) entry
+    pub stays : StaysFrom w t
     pub apart : AreApart stations
     pub ranged : Each IsRanged stations
 
@@ -55,7 +57,7 @@ module _ (w : Scenario) where
         IsTold w t holder stations entry place ended found
     -- beside a station in doubt all is quiet until the next message starts
     pub doubt_lasts : (t n place : ℕ) (holder : StationData) (stations : List Present) (begun : Begun) (x : ℕ)
-        (moment : RestedInDoubt w (trace_at w t) place holder stations begun x) → t + n ≤ x + taking_over →
+        (moment : RestedInDoubt w (trace_at w t) place holder stations begun x) → StaysFrom w t → t + n ≤ x + taking_over →
         DoubtLasts t n place holder stations begun x moment.offerer
     -- then that message begins, and the one in doubt yields
     pub begins_in_doubt : (t place : ℕ) (holder : StationData) (stations : List Present) (entry : Entry) (begun : Begun) (x : ℕ)

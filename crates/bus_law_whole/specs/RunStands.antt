@@ -1,23 +1,29 @@
 -- A run of the message table beside the world, from attempt to attempt.
 use Rattle.std.specs.Prelude.{◌≡◌, ◌⊎◌, ℕ, ◌+◌, ◌≤◌, List, [], ◌∷◌, Some, None}
+use Rattle.std.specs.List.{AllByRecursion as Each}
 use Rattle.bus_formats.specs.Plans.{StationData}
 use Rattle.bus_formats.specs.Times.{ending_quiet}
 use Rattle.bus_formats.specs.declared.log.Attempt.{Attempt}
 use Rattle.bus_model.specs.Attempts.{Begun}
 use Rattle.bus_model.specs.Course.{quiet_from}
-use Rattle.bus_model.specs.Run.{Run}
+use Rattle.bus_model.specs.Run.{Run, Next, next_item}
 use Rattle.bus_model.specs.Strikes.{ShownAnswer}
+use Rattle.bus_model.specs.WorldLog.{present_stations}
+use Rattle.bus_law_duties.specs.Duties.{AreApart}
 use Rattle.bus_law_messages.specs.Settled.{NoneStarts}
 use Rattle.bus_law_phases.specs.Rests.{Rested}
 use Rattle.bus_law_phases.specs.Scenarios.{Scenario, trace_at, shown_at, course_of}
+use Rattle.bus_law_plans.specs.Entries.{IsRunAmong, IsNext, KeepsSuperseding}
+use Rattle.bus_law_plans.specs.Memories.{KeepsWordRanges}
+use Rattle.bus_law_moments.specs.Begun.{IsRanged}
 use Rattle.bus_law_moments.specs.Doubts.{RestedInDoubt, attempt_yielded}
 use Rattle.bus_law_moments.specs.OldAnswers.{BesideOldAnswer}
 use Rattle.bus_law_run.specs.RunShows.{RunShows}
 
--- both channels are quiet from the run's tick on, for no longer than until the end of a run
+-- both channels are quiet from the run's tick on; where no item is left, for no longer than until the end of a run
 pub record IsQuietSince (w : Scenario) (t : ℕ) (run : Run) : Type 0 where
   pub quiet : quiet_from (shown_at w t) ≡ run.quiet_from
-  pub soon : t ≤ run.quiet_from + ending_quiet
+  pub soon : next_item run ≡ None → t ≤ run.quiet_from + ending_quiet
 
 module _ (w : Scenario) (t place : ℕ) (holder : StationData) (run : Run) (pending : List Attempt) where
   -- the moment lies between two messages: no attempt is still to end, and no abandoned answer runs on
@@ -63,3 +69,19 @@ pub record RunStands (w : Scenario) (t : ℕ) (run : Run) : Type 0 where
   pub shows : RunShows w t run pending
   -- the moment is of one of three sorts, and the stations are the run's
   pub moment : IsMoment w t place holder run pending
+
+-- ---- going on
+
+-- what the next message of a run rests on: its item may be sent by the station in control, the stations have one address each and are in their ranges, and
+-- an abandoned answer that runs on is superseded by it
+pub record MayGoOn (w : Scenario) (run : Run) : Type 0 where
+  pub next : (next : Next) → next_item run ≡ Some next → IsNext w.plan run next
+  pub apart : AreApart run.stations
+  pub ranged : Each IsRanged run.stations
+  pub superseding : KeepsSuperseding run
+
+-- a run by the stations that are present: what terminals keep is within the ranges of words, and an abandoned answer is superseded
+pub record IsRunByPresent (w : Scenario) (run : Run) : Type 0 where
+  pub of : IsRunAmong w.plan (present_stations w.lag w.plan w.loads w.outside w.absent) run
+  pub words : KeepsWordRanges run
+  pub superseding : KeepsSuperseding run

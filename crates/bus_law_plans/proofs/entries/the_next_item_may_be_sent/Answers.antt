@@ -2,4 +2,4 @@ use Rattle.bus_law_plans.proofs.Nexts.{next-of}
 use Rattle.bus_law_plans.proofs.entries.the_next_item_may_be_sent.Goals as goal
 
 pub returns : goal.returns
-returns _ = next-of
+returns _ = λ plan own run next is. next-of plan run next is
