@@ -41,7 +41,8 @@ effect-error r c command words =
     either-by same (has_code command override_inhibit_terminal_flag) _ _ (λ is. refl) (λ is.
     either-by same (has_code command synchronize_with_data) _ _ (λ is. refl) (λ is. refl)))))
 
-promises-owes : (command transmitter : ℕ) (words : List Word) (acceptance : Bool) → promises command transmitter ≡ owes words acceptance → ⊥
+-- whoever promises owes nothing yet
+pub promises-owes : (command transmitter : ℕ) (words : List Word) (acceptance : Bool) → promises command transmitter ≡ owes words acceptance → ⊥
 promises-owes command transmitter words acceptance is = cc
 
 -- what the registers say after a command, and the data words of its answer

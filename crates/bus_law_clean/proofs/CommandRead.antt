@@ -1,7 +1,7 @@
 -- A monitor reads a command that was sent whole as the message that it begins.
 use Rattle.std.proofs.Common.{◌≡◌, ◌≢◌, ℕ, zero, suc, ◌%◌, ◌≤◌, List, [], ◌∷◌, length, map, refl, ap, sym, ◌∙◌, arith}
 use Rattle.std.proofs.lemmas.Bool.Decides.{nat_tests}
-use Rattle.std.specs.Prelude.{Bool, true, false, not, ◌&&◌, ◌==◌, if◌then◌else◌, is_some, AllPairs, IsSome, Option, Some, None, option_to_list}
+use Rattle.std.specs.Prelude.{Bool, true, false, not, ◌&&◌, ◌==◌, is_some, AllPairs, IsSome, Option, Some, None, option_to_list}
 use Rattle.bus_words.specs.Fields.{command_bits, address_of, is_transmit, sub_of, field_of, is_broadcast, is_mode, word_count}
 use Rattle.bus_words.specs.declared.word.Word.{Word}
 use Rattle.bus_formats.specs.Accepted.{HasReceiveRanges, HasTransmitRanges, HasModeRanges, HasKindRanges, addresses_named}
@@ -10,13 +10,9 @@ use Rattle.bus_formats.specs.Readings.{word_before, data_in}
 use Rattle.bus_formats.specs.declared.plan.Kind.{Kind}
 use Rattle.bus_formats.specs.declared.plan.Kind.TheVariants.{Receive, Transmit, Relay, Mode}
 use Rattle.bus_monitor.specs.Messages.{with_form, mode_kind, mode_message, transmit_message, receive_message, message_of}
+use Rattle.bus_law_duties.proofs.Fields.{skips, takes}
 use Rattle.bus_law_duties.specs.Words.{whole_slots}
-use Rattle.bus_law_plans.proofs.Lists.{skips}
 use Rattle.bus_law_plans.proofs.Orders.{address-is, sub-is, field-is, transmit-is, plain-mode, mode-is, count-is}
-
-takes : {X : Type 0} (b : Bool) (x y : X) → b ≡ true → (if b then x else y) ≡ x
-takes true x y is = refl
-takes false x y is = absurd (cc)
 
 -- data words that were sent whole are read
 pub data-read : (words : List ℕ) → data_in (length words) (whole_slots (map data_word words)) ≡ Some words

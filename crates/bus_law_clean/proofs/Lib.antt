@@ -8,3 +8,5 @@ pub mod SecondDue
 pub mod MessageKeeps
 pub mod AnswersRight
 pub mod MessageJudged
+pub mod RunOrder
+pub mod RunInOrder

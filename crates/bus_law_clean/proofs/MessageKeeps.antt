@@ -1,8 +1,8 @@
 -- What a message that was sent whole leaves of the row of bursts, by which of its answers are shown.
-use Rattle.std.proofs.Common.{◌≡◌, ℕ, ◌+◌, ◌≤◌, List, [], ◌∷◌, ◌++◌, refl, ap, sym, subst, ◌∙◌, arith}
+use Rattle.std.proofs.Common.{◌≡◌, ℕ, ◌+◌, ◌≤◌, List, [], ◌∷◌, refl, ap, sym, subst, ◌∙◌, arith}
 use Rattle.std.proofs.lemmas.Bool.{true≢false}
 use Rattle.std.proofs.lemmas.Option.{none-some, same_Some}
-use Rattle.std.specs.Prelude.{Bool, true, false, if◌then◌else◌, is_some, Option, Some, None}
+use Rattle.std.specs.Prelude.{Bool, false, if◌then◌else◌, is_some, Option, Some, None}
 use Rattle.bus_base.specs.Samples.{same_channel}
 use Rattle.bus_base.specs.declared.samples.Channel.{Channel}
 use Rattle.bus_base.specs.declared.samples.Part.{Part}
@@ -19,8 +19,8 @@ use Rattle.bus_formats.specs.declared.form.Shape.{Shape}
 use Rattle.bus_formats.specs.declared.plan.Kind.{Kind}
 use Rattle.bus_model.specs.Endings.{Passing, Ending, second_read, good_ending, read_ending, first_read, ending_by}
 use Rattle.bus_model.specs.Attempts.{is_offer}
-use Rattle.bus_model.specs.Starts.{needed_quiet}
 use Rattle.bus_model.specs.Strikes.{ShownAnswer, burst_end}
+use Rattle.bus_law_duties.proofs.Fields.{skips}
 use Rattle.bus_law_duties.specs.Words.{whole_slots}
 use Rattle.bus_monitor.specs.Messages.{Waiting, message_of, opens, waits_after}
 use Rattle.bus_rules.specs.Breaches.{answered}
@@ -29,12 +29,6 @@ use Rattle.bus_law_clean.specs.Bursts.{word_ticks, whole_burst}
 use Rattle.bus_law_clean.specs.Messages.{MessageKeeps}
 use Rattle.bus_law_clean.proofs.AnswerRead.{IsDue}
 use Rattle.bus_law_clean.proofs.MessageRow.{command-follows, command-waits, answer-follows, answer-waits}
-
-takes : {X : Type 0} (b : Bool) (x y : X) → b ≡ true → (if b then x else y) ≡ x
-takes b x y on = ap (λ (t : Bool). if t then x else y) on
-
-skips : {X : Type 0} (b : Bool) (x y : X) → b ≡ false → (if b then x else y) ≡ y
-skips b x y off = ap (λ (t : Bool). if t then x else y) off
 
 -- an answer of this message, from this tick on: after the end of the burst before, in time, and due
 pub record IsSentWell (kind : Kind) (part : Part) (end start : ℕ) (words : List Word) : Type 0 where

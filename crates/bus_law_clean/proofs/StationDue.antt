@@ -23,7 +23,7 @@ use Rattle.bus_formats.specs.declared.plan.Kind.TheVariants.{Receive, Transmit, 
 use Rattle.bus_model.specs.Commands.{tail_of, relay_from}
 use Rattle.bus_model.specs.Memory.{Memory, TimedLoad, status_of}
 use Rattle.bus_model.specs.Message.{Present, address_of_station, After, memory_at, command_burst}
-use Rattle.bus_model.specs.Orders.{owes, promises, Order, order_with, last_order, is_for, obey_tail}
+use Rattle.bus_model.specs.Orders.{owes, Order, order_with, last_order, is_for, obey_tail}
 use Rattle.bus_model.specs.Starts.{has_items}
 use Rattle.bus_model.specs.Strikes.{spoiled, own_struck, struck}
 use Rattle.bus_law_duties.specs.Words.{whole_slots, with_data, AreLeftOf}
@@ -36,7 +36,7 @@ use Rattle.bus_law_duties.proofs.Status.{status-address}
 use Rattle.bus_law_duties.proofs.Struck.{struck-left}
 use Rattle.bus_law_plans.proofs.Orders.{count-is, mode-is}
 use Rattle.bus_law_clean.proofs.AnswerRead.{IsDue, IsStatus, shown}
-use Rattle.bus_law_clean.proofs.AnswerSorts.{IsSort, OwesSorted, tail-sorted, Says, says-so, data-due}
+use Rattle.bus_law_clean.proofs.AnswerSorts.{IsSort, OwesSorted, tail-sorted, Says, says-so, data-due, promises-owes}
 use Rattle.bus_law_clean.proofs.AnswerDue.{read-due}
 
 -- ---- nothing is struck
@@ -88,9 +88,6 @@ shape-one to count one =
 
 alone-found : (own bits : ℕ) → is_for own bits ≡ true → last_order own (Some (command_word bits) ∷ []) ≡ Some (record { command = bits; tail = [] })
 alone-found own bits is = ap (λ (b : Bool). option_or None (order_with (if b then Some bits else None) [])) is
-
-promises-owes : (command transmitter : ℕ) (words : List Word) (acceptance : Bool) → promises command transmitter ≡ owes words acceptance → ⊥
-promises-owes command transmitter words acceptance is = cc
 
 -- what is known of a terminal that owes data words to a command, with its status
 record Owing (terminal : TerminalData) (own : ℕ) (order : Order) (number : ℕ) (words : List ℕ) : Type 0 where

@@ -29,17 +29,17 @@ use Rattle.bus_tool.specs.declared.words.Command.TheVariants as commands
 use Rattle.bus_law_readback.proofs.CaptureRead.{never-both, read-end, listing-done}
 use Rattle.bus_law_readback.specs.Calls.{Call, EndsAs, AreJoined, ListTheSameWords}
 
-clash : (status a b : ℕ) → status ≡ a → status ≡ b → a < b → ⊥
+pub clash : (status a b : ℕ) → status ≡ a → status ≡ b → a < b → ⊥
 clash status a b low high less = omega (arith, low, high, less)
 
 -- ---- what was read of a stream that told what it had
 
 -- all of it, where nothing is left
-whole-read : (text : List ℕ) (left : Option (List ℕ)) (input : List ℕ) → Consumes (Some text) left input → IsAtEnd left → input ≡ text
+pub whole-read : (text : List ℕ) (left : Option (List ℕ)) (input : List ℕ) → Consumes (Some text) left input → IsAtEnd left → input ≡ text
 whole-read text None input consumed at = absurd consumed
 whole-read text (Some rest) input consumed at = sym (consumed ∙ ap (λ (l : List ℕ). input ++ l) at ∙ append-nil input)
 
-from-empty : (held : Option (List ℕ)) (bytes : List ℕ) → Appends (Some []) held bytes → held ≡ Some bytes
+pub from-empty : (held : Option (List ℕ)) (bytes : List ℕ) → Appends (Some []) held bytes → held ≡ Some bytes
 from-empty None bytes written = absurd written
 from-empty (Some all) bytes written = ap (λ l. Some l) written
 
@@ -52,7 +52,7 @@ input-short input none =
     let low = not-long (nat_lt limit (length input)) (refusal_of (plan_of_bytes input)) none in
     grind (arith, nat_tests, low)
 
-input-whole : (text : List ℕ) (left0 left1 : Option (List ℕ)) (input : List ℕ) → left0 ≡ Some text → ReadsInput left0 left1 input → input_refusal input ≡ None →
+pub input-whole : (text : List ℕ) (left0 left1 : Option (List ℕ)) (input : List ℕ) → left0 ≡ Some text → ReadsInput left0 left1 input → input_refusal input ≡ None →
     input ≡ text
 input-whole text left0 left1 input had read none =
     whole-read text left1 input (subst (λ l. Consumes l left1 input) had read.consumed) (read.whole (input-short input none))
@@ -63,7 +63,7 @@ later-refused : (more bytes : List ℕ) (refusal : CaptureRefusal) → answer_no
 later-refused [] bytes refusal is = is
 later-refused (byte ∷ more) bytes refusal is = refused-stays (more ++ bytes) refusal byte (later-refused more bytes refusal is)
 
-never-refused : (text : List ℕ) (ticks : ℕ) (left : Option (List ℕ)) (input : List ℕ) (refusal : CaptureRefusal) → end_after (reverse text) ≡ Ok ticks →
+pub never-refused : (text : List ℕ) (ticks : ℕ) (left : Option (List ℕ)) (input : List ℕ) (refusal : CaptureRefusal) → end_after (reverse text) ≡ Ok ticks →
     Consumes (Some text) left input → IsRefusedBy left (reverse input) refusal → ⊥
 never-refused text ticks None input refusal good consumed refused = absurd consumed
 never-refused text ticks (Some rest) input refusal good consumed (inl byte) =
@@ -103,10 +103,10 @@ module _ (plan : PlanData) (accepted : IsAccepted plan) (said : List (List ℕ))
 
 -- ---- the three calls
 
-abbrev plan-read : PlanData → Result PlanData PlanRefusal
+abbrev pub plan-read : PlanData → Result PlanData PlanRefusal
 plan-read plan = Ok plan
 
-abbrev plan-or : PlanData → Result PlanData PlanRefusal → PlanData
+abbrev pub plan-or : PlanData → Result PlanData PlanRefusal → PlanData
 plan-or other (Ok plan) = plan
 plan-or other (Err refusal) = other
 

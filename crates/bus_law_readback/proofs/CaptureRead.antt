@@ -117,7 +117,7 @@ module _ (plan : PlanData) (accepted : IsAccepted plan) where
     abbrev text : List ℕ
     text = text_of texts.Capture (plan_run texts.Capture plan) said
 
-    read-ticks : ticks_in (reverse text) ≡ world LAG plan [] [] [] ticks
+    pub read-ticks : ticks_in (reverse text) ≡ world LAG plan [] [] [] ticks
     unfolding capture_ticks
     read-ticks = ap (λ (c : Capture). c.ticks) (capture-read said)
 
