@@ -1,10 +1,11 @@
 -- A bus behind whose terminals there is nothing.
-use Rattle.std.proofs.Common.{◌≡◌, ◌∙◌, ℕ, zero, suc, List, [], length, replicate, refl, ap, sym, subst, Option, Some, None}
-use Rattle.std.specs.Prelude.{slice_get}
+use Rattle.std.proofs.Common.{◌≡◌, ◌≤◌, ◌∙◌, ℕ, zero, suc, List, [], length, min, replicate, refl, ap, sym, subst, arith, Option, Some, None}
+use Rattle.std.specs.Prelude.{slice_get, sum_by}
 use Rattle.std.proofs.lemmas.Option.{same_Some}
 use Rattle.bus_base.specs.declared.samples.Pair.{Pair}
 use Rattle.bus_formats.specs.Plans.{StationData, PlanData}
 use Rattle.bus_formats.specs.declared.log.Delivery.{Delivery}
+use Rattle.bus_run.specs.Amounts.{attempts_of_station, most_attempts}
 use Rattle.bus_run.specs.Deliveries.{ObjectsIn, ServesIn, AreFew}
 use Rattle.bus_run.specs.Settings.{Setting, unserved}
 
@@ -48,3 +49,13 @@ nobody-serves w past told spare none no-told no-spare = record {
 
 pub nobody-few : (w : Setting) (past : List Pair) → w.served ≡ [] → AreFew w past
 nobody-few w past none = λ p s at. absurd (nobody-there w.served p s none at)
+
+-- ---- room
+
+least-below : (most amount : ℕ) → min most amount ≤ most
+least-below most amount = grind arith
+
+-- room is made for no more attempts than 32 bits count
+pub attempts-below : (plan : PlanData) → most_attempts plan ≤ 2147483648
+unfolding most_attempts
+attempts-below plan = least-below 2147483648 (sum_by attempts_of_station plan.stations)

@@ -1,5 +1,6 @@
 //! A bus that is joined to something outside (data handed on and standby control are the project's own).
 ghost use Rattle.std.specs.Prelude.{◌≡◌, ◌≤◌, ◌<◌, ◌^◌, ◌+◌, ◌++◌, ◌&&◌, nat_lt, nat_le, ℕ, List, [], ◌∷◌, length, All, IfOk};
+ghost use Rattle.bus_base.specs.declared.samples.Drive.{Drive};
 ghost use Rattle.bus_base.specs.declared.samples.Pair.{Pair};
 ghost use Rattle.bus_line.specs.declared.cutter.TheConstants.{LAG};
 ghost use Rattle.bus_formats.specs.Accepted.{IsAccepted};
@@ -8,7 +9,7 @@ ghost use Rattle.bus_model.specs.World.{Trace, next_tick, shown_next};
 ghost use Rattle.bus_model.specs.World as worlds;
 ghost use Rattle.bus_run.specs.Amounts as amounts;
 ghost use Rattle.bus_run.specs.Deliveries.{taken_in};
-ghost use Rattle.bus_run.specs.Joined.{JoinedStands, tick_more, is_over_after};
+ghost use Rattle.bus_run.specs.Joined.{JoinedStands, tick_more, is_over_after, with_load};
 ghost use Rattle.bus_run.specs.Settings.{Setting, unserved};
 ghost use Rattle.bus_run.specs.StationRows.{ended_in, count_after};
 
@@ -25,7 +26,7 @@ use std::alloc::{AllocError, Global};
 // No bus runs for more ticks.
 const MOST_TICKS: u64 = 4_294_967_295;
 
-/// The stations of a plan over its wire, tick by tick, where blocks may be loaded from outside.
+/// The stations of a plan over its wire, tick by tick. Between two ticks blocks may be put up for sending from outside.
 ///
 /// It keeps no history: `JoinedStands` says of which settings and traces it may be as it is.
 #[derive(Drop)]
@@ -82,6 +83,15 @@ impl JoinedBus {
         shown
     }
 
+    /// The most blocks that one of the terminals takes in the run of the plan alone.
+    pub fn most_deliveries(&self) -> u64
+        requires { (w : Setting) × (found : List Attempt) × (count : ℕ) × (trace : Trace) × JoinedStands w found count trace self.now }
+        ensures { (w : Setting) (found : List Attempt) (count : ℕ) (trace : Trace) → JoinedStands w found count trace self.now →
+            result ≡ amounts.most_deliveries w.plan }
+    {
+        3 * self.most_attempts
+    }
+
     /// Whether one tick more may run: there is room for what it may bring, and fewer than 4,294,967,295 ticks ran.
     #[tactic(auto, unfolding(crate::specs::Joined::JoinedStands))]
     pub fn has_room(&self) -> bool
@@ -100,6 +110,24 @@ impl JoinedBus {
         self.row.quiet() >= ENDING_QUIET && self.row.are_done()
     }
 
+    /// Makes the transmit block of a subaddress, 1 to 29, of the stations with this address exactly the words, 1 to 32: a timed load at the newest tick.
+    /// What terminals took in that tick stays. It takes no memory.
+    pub fn load(&mut self, address: u8, sub: u8, words: &[u16])
+        requires first { 1 ≤ sub }
+        requires last { sub ≤ 29 }
+        requires some { 1 ≤ length words.now }
+        requires fits { length words.now ≤ 32 }
+        requires stands { (w : Setting) × (found : List Attempt) × (count : ℕ) × (shown : Pair) × (past : List Pair) × (driven : List (List Drive))
+            × JoinedStands w found count (record { shown = shown ∷ past; driven = driven }) self.old }
+        ensures stands { (w : Setting) (found : List Attempt) (count : ℕ) (shown : Pair) (past : List Pair) (driven : List (List Drive)) →
+            JoinedStands w found count (record { shown = shown ∷ past; driven = driven }) self.old →
+            JoinedStands (with_load w (record { tick = length past; address = address; sub = sub; words = words.now })) found count
+            (record { shown = shown ∷ past; driven = driven }) self.new }
+        ensures taken { self.new.row.taken ≡ self.old.row.taken }
+    {
+        self.row.load(address, sub, words);
+    }
+
     /// The blocks that terminals took in the newest tick, in the order of the plan.
     pub fn taken(&self) -> &[TakenBlock]
         ensures { result.now ≡ self.now.row.taken.items }
@@ -113,6 +141,15 @@ impl JoinedBus {
         ensures { (w : Setting) (found : List Attempt) (count : ℕ) (trace : Trace) → JoinedStands w found count trace self.now → result.now ≡ found }
     {
         self.row.attempts()
+    }
+
+    /// Those attempts, of a bus that is done with.
+    #[tactic(auto, unfolding(crate::specs::Joined::JoinedStands))]
+    pub fn into_attempts(self) -> Vec<Attempt>
+        ensures { (w : Setting) (found : List Attempt) (count : ℕ) (trace : Trace) → JoinedStands w found count trace self → result.items ≡ found }
+    {
+        let (_, attempts) = self.row.into_parts();
+        attempts
     }
 
     /// In how many ticks so far two stations or more drove one channel.
