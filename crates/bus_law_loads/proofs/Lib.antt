@@ -1,0 +1,4 @@
+pub mod Terminals
+pub mod Stations
+pub mod Worlds
+pub mod TakenWords
