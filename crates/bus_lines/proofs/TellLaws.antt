@@ -1,16 +1,15 @@
 -- All ticks that are due are told one after the other.
-use Rattle.std.proofs.Common.{◌≡◌, ℕ, suc, ◌<◌, List, [], ◌++◌, refl, ap, sym, ◌∙◌, subst, arith, append_assoc, append-nil, Option, Some, None, Result, Ok, Err}
-use Rattle.bus_outside.specs.Causes.{GrowsByFront, WriteAdds}
-use Rattle.bus_monitor.proofs.WriterLaws.{wrote, owed-front}
-use Rattle.bus_lines.specs.Written.{OwedOr, Took}
+use Rattle.std.proofs.Common.{◌≡◌, ℕ, suc, ◌<◌, List, [], ◌++◌, refl, ap, sym, ◌∙◌, subst, arith, Option, Result, Ok}
+use Rattle.bus_outside.specs.Causes.{GrowsByFront}
+use Rattle.bus_lines.specs.Written.{Took}
 use Rattle.bus_lines.specs.Readers as readers
 use Rattle.bus_lines.specs.declared.reader.RecordingReader.{RecordingReader}
 use Rattle.bus_lines.specs.declared.reader.Closing.{Closing}
 use Rattle.bus_lines.specs.declared.converter.Halt.{Halt}
 use Rattle.bus_recording.specs.declared.refusal.RecordingRefusal.{RecordingRefusal}
-use Rattle.bus_outside.proofs.Writes.{front_then}
 use Rattle.bus_monitor.specs.Scribes.{Owed}
 use Rattle.bus_phase.specs.Phases.{pair_now}
+use Rattle.bus_lines.proofs.RestLaws.{Rests, rests_all, rests_on, rests_none, rests_fail}
 use Rattle.bus_lines.specs.Converting.{ticks_due, after_one, after_told, told_text, due_text, all_told, tick_text, with_closing, going_on, closed, closed_text, closed_refusal, with_reader_end}
 use Rattle.bus_lines.specs.declared.converter.Converter.{Converter}
 
@@ -35,26 +34,13 @@ told_none : (c : Converter) → ticks_due c ≡ 0 → all_told c ≡ c
 unfolding after_told
 told_none c none = ap (λ (n : ℕ). after_told n c) none
 
--- a front of a part is a front of the whole
-front_longer : (first held : Option (List ℕ)) (part more whole : List ℕ) → part ++ more ≡ whole → GrowsByFront first held part → GrowsByFront first held whole
-front_longer None held part more whole is front = tt
-front_longer (Some a) None part more whole is front = absurd front
-front_longer (Some a) (Some b) part more whole is front =
-    subst (λ (l : List ℕ). GrowsByFront (Some a) (Some b) l) is
-    (front_then (Some a) (Some a) (Some b) [] part more (sym (append-nil a)) front)
-
--- the same, for all callers
-pub longer : (first held : Option (List ℕ)) (part more whole : List ℕ) → part ++ more ≡ whole → GrowsByFront first held part → GrowsByFront first held whole
-longer = front_longer
-
 -- so far some ticks of those that were due are told
 pub record Telling (c0 c : Converter) (text0 text : List ℕ) (held0 held : Option (List ℕ)) : Type 0 where
   pub state : all_told c ≡ all_told c0
-  pub told : (before : List ℕ) (first : Option (List ℕ)) → Owed before text0 first held0 →
-      (so : List ℕ) × (before ++ due_text c0 ≡ so ++ due_text c) × Owed so text first held
+  pub told : Rests (due_text c0) (due_text c) text0 text held0 held
 
 pub telling_starts : (c : Converter) (text : List ℕ) (held : Option (List ℕ)) → Telling c c text text held held
-telling_starts c text held = record { state = refl; told = λ before first owed. (before, refl, owed) }
+telling_starts c text held = record { state = refl; told = rests_all (due_text c) text held }
 
 pub telling_goes_on : (c0 c c' : Converter) (text0 text text' : List ℕ) (held0 held held' : Option (List ℕ)) → 0 < ticks_due c → c' ≡ after_one c →
     Telling c0 c text0 text held0 held →
@@ -63,19 +49,13 @@ pub telling_goes_on : (c0 c c' : Converter) (text0 text text' : List ℕ) (held0
 telling_goes_on c0 c c' text0 text text' held0 held held' some is t one =
     subst (λ (x : Converter). Telling c0 x text0 text' held0 held') (sym is) record {
       state = sym (told_step c some) ∙ t.state;
-      told = λ before first owed.
-          let so = t.told before first owed in (
-            so.0 ++ tick_text c.column (pair_now c.phase),
-            so.1 ∙ ap (λ (l : List ℕ). so.0 ++ l) (due_step c some) ∙ sym (append_assoc so.0 (tick_text c.column (pair_now c.phase)) (due_text (after_one c))),
-            one so.0 first so.2,
-          );
+      told = rests_on (due_text c0) (due_text c) (tick_text c.column (pair_now c.phase)) (due_text (after_one c)) text0 text text' held0 held held'
+          (due_step c some) t.told one;
     }
 
 pub telling_ends : (c0 c : Converter) (text0 text : List ℕ) (held0 held : Option (List ℕ)) → ticks_due c ≡ 0 → Telling c0 c text0 text held0 held →
     (before : List ℕ) (first : Option (List ℕ)) → Owed before text0 first held0 → Owed (before ++ due_text c0) text first held
-telling_ends c0 c text0 text held0 held none t before first owed =
-    let so = t.told before first owed in
-    subst (λ (l : List ℕ). Owed l text first held) (sym (so.1 ∙ ap (λ (l : List ℕ). so.0 ++ l) (due_none c none) ∙ append-nil so.0)) so.2
+telling_ends c0 c text0 text held0 held none t = rests_none (due_text c0) (due_text c) text0 text held0 held (due_none c none) t.told
 
 pub telling_ended : (c0 c : Converter) (text0 text : List ℕ) (held0 held : Option (List ℕ)) → ticks_due c ≡ 0 → Telling c0 c text0 text held0 held → c ≡ all_told c0
 telling_ended c0 c text0 text held0 held none t = sym (told_none c none) ∙ t.state
@@ -83,17 +63,8 @@ telling_ended c0 c text0 text held0 held none t = sym (told_none c none) ∙ t.s
 pub telling_fails : (c0 c : Converter) (text0 text : List ℕ) (held0 held held' : Option (List ℕ)) → 0 < ticks_due c → Telling c0 c text0 text held0 held →
     ((before : List ℕ) (first : Option (List ℕ)) → Owed before text first held → GrowsByFront first held' (before ++ tick_text c.column (pair_now c.phase))) →
     (before : List ℕ) (first : Option (List ℕ)) → Owed before text0 first held0 → GrowsByFront first held' (before ++ due_text c0)
-telling_fails c0 c text0 text held0 held held' some t one before first owed =
-    let so = t.told before first owed in
-    front_longer first held' (so.0 ++ tick_text c.column (pair_now c.phase)) (due_text (after_one c)) (before ++ due_text c0)
-    (append_assoc so.0 (tick_text c.column (pair_now c.phase)) (due_text (after_one c)) ∙ sym (so.1 ∙ ap (λ (l : List ℕ). so.0 ++ l) (due_step c some)))
-    (one so.0 first so.2)
-
--- a text that is held back is written
-pub written_all : {T E : Type 0} (all text : List ℕ) (first held held' : Option (List ℕ)) (result : Result T E) → Owed all text first held →
-    WriteAdds held held' result text → OwedOr all [] first held' result
-written_all all text first held held' (Ok done) owed added = wrote all text first held held' owed added
-written_all all text first held held' (Err failed) owed added = owed-front all text first held held' owed added
+telling_fails c0 c text0 text held0 held held' some t one =
+    rests_fail (due_text c0) (due_text c) (tick_text c.column (pair_now c.phase)) (due_text (after_one c)) text0 text held0 held held' (due_step c some) t.told one
 
 -- ---- the end of a recording
 

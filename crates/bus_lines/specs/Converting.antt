@@ -1,7 +1,7 @@
 -- What the bytes of a recording add to the text of its capture.
-use Rattle.std.specs.Prelude.{ℕ, zero, suc, ◌+◌, ◌-◌, ◌==◌, nat_le, if◌then◌else◌, List, [], ◌∷◌, ◌++◌, Option, Some, None, Result, Ok, Err}
+use Rattle.std.specs.Prelude.{ℕ, zero, suc, ◌+◌, ◌-◌, ◌==◌, nat_le, Bool, true, false, if◌then◌else◌, List, [], ◌∷◌, ◌++◌, Option, Some, None, Result, Ok, Err}
 use Rattle.bus_base.specs.declared.samples.Pair.{Pair}
-use Rattle.bus_capture.specs.Captures.{header, line_feed, line_end, sample_byte}
+use Rattle.bus_capture.specs.Captures.{line_feed, line_end, sample_byte}
 use Rattle.bus_phase.specs.Phases.{phase_at_start, shown, ended, pair_now, after_tick, most_ticks}
 use Rattle.bus_recording.specs.declared.moment.Moment.{Moment}
 use Rattle.bus_recording.specs.declared.refusal.RecordingRefusal.{RecordingRefusal}
@@ -89,22 +89,25 @@ byte_text byte c = taken_text (readers.answer byte c.reader) (with_byte byte c)
 abbrev pub byte_refusal : ℕ → Converter → Option RecordingRefusal
 byte_refusal byte c = refusal_in (readers.answer byte c.reader) (readers.offset c.reader) (after_byte byte c)
 
--- ---- bytes in their order
+-- ---- bytes in their order: after a refusal none is taken
+
+-- what stands where the recording is refused, and what where it isn't
+abbrev pub where_refused : {A : Type 0} → Option RecordingRefusal → A → A → A
+where_refused (Some refusal) refused going = refused
+where_refused None refused going = going
 
 unfoldable pub after_bytes : List ℕ → Converter → Converter
 after_bytes [] c = c
-after_bytes (byte ∷ bytes) c = after_bytes bytes (after_byte byte c)
+after_bytes (byte ∷ bytes) c = where_refused (byte_refusal byte c) (after_byte byte c) (after_bytes bytes (after_byte byte c))
 
 unfoldable pub bytes_text : List ℕ → Converter → List ℕ
 bytes_text [] c = []
-bytes_text (byte ∷ bytes) c = byte_text byte c ++ bytes_text bytes (after_byte byte c)
+bytes_text (byte ∷ bytes) c = byte_text byte c ++ where_refused (byte_refusal byte c) [] (bytes_text bytes (after_byte byte c))
 
--- the text so far: the header, and the ticks that were due
-abbrev pub text_so_far : RecordingReader → List ℕ → List ℕ
-text_so_far reader bytes = header ++ bytes_text bytes (started reader)
-
-abbrev pub converted : RecordingReader → List ℕ → Converter
-converted reader bytes = after_bytes bytes (started reader)
+-- why the recording is refused with these bytes, if it is
+unfoldable pub bytes_refusal : List ℕ → Converter → Option RecordingRefusal
+bytes_refusal [] c = None
+bytes_refusal (byte ∷ bytes) c = where_refused (byte_refusal byte c) (byte_refusal byte c) (bytes_refusal bytes (after_byte byte c))
 
 -- ---- the end
 
@@ -137,3 +140,18 @@ end_text c = closed_text (readers.closing c.reader) (with_reader_end c)
 
 abbrev pub end_refusal : Converter → Option RecordingRefusal
 end_refusal c = closed_refusal (readers.closing c.reader) (readers.offset c.reader) (after_end c)
+
+-- ---- bytes, and after them their end where it was reached
+
+abbrev pub after_part : Bool → List ℕ → Converter → Converter
+after_part false bytes c = after_bytes bytes c
+after_part true bytes c = after_end (after_bytes bytes c)
+
+abbrev pub part_text : Bool → List ℕ → Converter → List ℕ
+part_text false bytes c = bytes_text bytes c
+part_text true bytes c = bytes_text bytes c ++ end_text (after_bytes bytes c)
+
+-- why the recording is refused; its end is reached only where no byte was refused
+abbrev pub part_refusal : Bool → List ℕ → Converter → Option RecordingRefusal
+part_refusal false bytes c = bytes_refusal bytes c
+part_refusal true bytes c = end_refusal (after_bytes bytes c)

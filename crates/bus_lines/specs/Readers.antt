@@ -28,15 +28,15 @@ offset (Rows r) = r.at
 -- ---- the end
 
 -- a dump ends at its last time
-abbrev pub closing_at : Result Moment RecordingRefusal → Result Closing RecordingRefusal
-closing_at (Err refusal) = Err refusal
-closing_at (Ok moment) = Ok (record { moment = Some moment; end = moment.at })
+abbrev pub closing_at : ℕ → Result Moment RecordingRefusal → Result Closing RecordingRefusal
+closing_at end (Err refusal) = Err refusal
+closing_at end (Ok moment) = Ok (record { moment = Some moment; end = end })
 
 abbrev pub after_dump : VcdReader → VcdReader
 after_dump r = vcd.token_ended r
 
 abbrev pub closing_of_dump : VcdReader → Result Closing RecordingRefusal
-closing_of_dump r = closing_at (vcd.end_in (after_dump r).place (after_dump r))
+closing_of_dump r = closing_at (after_dump r).time (vcd.end_in (after_dump r).place (vcd.moment_ended r) (after_dump r))
 
 -- rows end a step after the last
 abbrev pub closing_by : ℕ → Result (Option Moment) RecordingRefusal → Result Closing RecordingRefusal

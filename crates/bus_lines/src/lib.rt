@@ -7,6 +7,8 @@
 pub mod converter;
 pub mod reader;
 pub mod refusals;
+#[cfg(test)]
+mod tests;
 pub mod tool;
 pub mod words;
 pub mod writing;

@@ -80,7 +80,7 @@ fn end_dump(reader: &mut VcdReader) -> Result<Closing, RecordingRefusal>
         Err(refusal) => Err(refusal),
         Ok(moment) => Ok(Closing {
             moment: Some(moment),
-            end: moment.at,
+            end: reader.time,
         }),
     }
 }

@@ -1,8 +1,22 @@
 //! A capture from the first piece of its recording to the last.
-ghost use Rattle.std.specs.Prelude.{◌≡◌, ◌≤◌, ◌<◌, ◌++◌, ℕ, List, Option, length, IfOk};
+ghost use Rattle.std.specs.Prelude.{◌≡◌, ◌≤◌, ◌<◌, ◌++◌, ℕ, suc, List, Option, true, false, length, IfOk};
 ghost use Rattle.bus_monitor.specs.Scribes.{Owed};
 ghost use Rattle.bus_outside.specs.Causes.{HasCause};
-ghost use Rattle.bus_lines.specs.Written.{OwedOr};
+ghost use Rattle.bus_recording.specs.Vcd.{text_limit};
+ghost use Rattle.bus_lines.specs.Ends.{IsConverted, EndingHasCause};
+ghost use Rattle.bus_lines.specs.Written.{
+  OwedOr,
+  TookBytes,
+  ReadLast,
+  PieceRead,
+  ReadCause,
+  Closes,
+  StopCause,
+  ending_of,
+  is_fault,
+  closing_text,
+  comment_of,
+};
 
 use crate::converter::{Converter, Halt};
 use crate::reader::RecordingReader;
@@ -36,7 +50,10 @@ pub fn write_capture<S: Source, K: Sink>(
     reader: RecordingReader,
     source: &mut S,
     sink: &mut K,
-) -> Ending {
+) -> Ending
+    ensures converted { IsConverted reader (S.left source.old) (S.left source.new) (K.held sink.old) (K.held sink.new) result }
+    ensures cause { EndingHasCause (S.faults source.old) (S.faults source.new) (K.faults sink.old) (K.faults sink.new) result }
+{
     let mut converter = Converter::new(reader);
     let mut text = Page::new();
     text.text("1553 capture 1\n");
@@ -55,7 +72,10 @@ fn read_all<S: Source, K: Sink>(
 ) -> Ending
     requires room { length text.old ≤ 3000 }
     requires piece { length piece.old ≡ 4096 }
+    ensures read { ReadLast (suc text_limit) (S.left source.old) (S.left source.new) converter.old converter.new text.old text.new
+        (K.held sink.old) (K.held sink.new) result }
     ensures room { length text.new ≤ 3000 }
+    ensures cause { EndingHasCause (S.faults source.old) (S.faults source.new) (K.faults sink.old) (K.faults sink.new) result }
 {
     let mut left = MOST_BYTES;
     'pieces: loop {
@@ -75,9 +95,15 @@ fn read_piece<S: Source, K: Sink>(
     source: &mut S,
     sink: &mut K,
 ) -> Result<usize, Ending>
+    requires place { 0 < length piece.old }
     requires room { length text.old ≤ 3000 }
+    ensures read { PieceRead (length piece.old) (S.left source.old) (S.left source.new) converter.old converter.new text.old text.new
+        (K.held sink.old) (K.held sink.new) result }
     ensures some { IfOk result (λ n. (0 < n) × (n ≤ length piece.old)) }
     ensures room { length text.new ≤ 3000 }
+    ensures reads { S.faults source.old ≤ S.faults source.new }
+    ensures writes { K.faults sink.old ≤ K.faults sink.new }
+    ensures cause { ReadCause (S.faults source.old) (S.faults source.new) (K.faults sink.old) (K.faults sink.new) result }
 {
     match source.read(piece) {
         Ok(0) => Err(ended(converter.end(text, sink))),
@@ -90,7 +116,9 @@ fn read_piece<S: Source, K: Sink>(
     }
 }
 
-fn ended(end: Result<(), Halt>) -> Ending {
+fn ended(end: Result<(), Halt>) -> Ending
+    ensures { result ≡ ending_of end }
+{
     match end {
         Ok(()) => Ending::Done,
         Err(Halt::Refused(refusal)) => Ending::Refused(refusal),
@@ -106,7 +134,10 @@ fn take_piece<K: Sink>(
     sink: &mut K,
 ) -> Result<(), Halt>
     requires room { length text.old ≤ 3000 }
+    ensures took { (before : List ℕ) (first : Option (List ℕ)) → Owed before text.old first (K.held sink.old) →
+        TookBytes piece.now before converter.old converter.new text.new first (K.held sink.new) result }
     ensures room { length text.new ≤ 3000 }
+    ensures cause { StopCause (K.faults sink.old) (K.faults sink.new) result }
 {
     for byte in piece {
         match converter.take(*byte, text, sink) {
@@ -120,16 +151,45 @@ fn take_piece<K: Sink>(
 // Writes what is left, and the line of a refusal.
 fn finish<K: Sink>(converter: &Converter, ending: Ending, text: &mut Page, sink: &mut K) -> Ending
     requires room { length text.old ≤ 3000 }
+    ensures fault { is_fault ending ≡ true → (result ≡ ending) × (K.held sink.new ≡ K.held sink.old) × (K.faults sink.new ≡ K.faults sink.old) }
+    ensures closes { is_fault ending ≡ false →
+        Closes (closing_text ending converter.now) ending text.old (K.held sink.old) (K.held sink.new) (K.faults sink.old) (K.faults sink.new) result }
+    ensures later { K.faults sink.old ≤ K.faults sink.new }
 {
-    converter.end_line(text);
-    match ending {
-        Ending::WriteFault => return ending,
-        Ending::Refused(refusal) => add_refusal(refusal, &converter.reader, text),
-        Ending::Done | Ending::ReadFault => {}
+    if is_write_fault(ending) {
+        return ending;
     }
+    add_closing(converter, ending, text);
     match sink.write(text.as_bytes()) {
         Ok(()) => ending,
         Err(_) => Ending::WriteFault,
+    }
+}
+
+fn is_write_fault(ending: Ending) -> bool
+    ensures { result ≡ is_fault ending }
+{
+    match ending {
+        Ending::WriteFault => true,
+        _ => false,
+    }
+}
+
+// Ends the line that isn't whole, and adds the line of a refusal.
+fn add_closing(converter: &Converter, ending: Ending, text: &mut Page)
+    requires room { length text.old ≤ 3000 }
+    ensures { text.new ≡ text.old ++ closing_text ending converter.now }
+{
+    converter.end_line(text);
+    add_comment(ending, &converter.reader, text);
+}
+
+fn add_comment(ending: Ending, reader: &RecordingReader, text: &mut Page)
+    requires room { length text.old ≤ 4001 }
+    ensures { text.new ≡ text.old ++ comment_of ending reader.now }
+{
+    if let Ending::Refused(refusal) = ending {
+        add_refusal(refusal, reader, text);
     }
 }
 

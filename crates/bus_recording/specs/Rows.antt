@@ -77,8 +77,9 @@ level_in columns n = if columns.is_logic then logic_by (size_of n) else volts_by
 abbrev pub level_at : ℕ → Option Sample → RowReader → Option Sample
 level_at column before r = if r.column == column then level_in r.columns r.number else before
 
+-- the time of a row after a field: the first column's, where rows say their times
 abbrev pub time_at : RowReader → Option ℕ
-time_at r = if r.column == 1 then time_of r.number else r.fields.time
+time_at r = if not (r.columns.step == 0) then r.fields.time else if r.column == 1 then time_of r.number else r.fields.time
 
 abbrev pub with_field : RowReader → Fields
 with_field r = record {

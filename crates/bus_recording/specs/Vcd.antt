@@ -228,12 +228,17 @@ abbrev pub head_refusal : VcdReader → RecordingRefusal
 head_refusal r = if r.unit == 0 then refusals.NoTimescale else refusal_of_line r.at (first_missing r.wires)
 
 -- what a text comes to where it ends: its last moment, or the first refusal
-abbrev pub end_in : Place → VcdReader → Result Moment RecordingRefusal
-end_in (Refused refusal) r = Err refusal
-end_in Body r = Ok (moment_at r)
-end_in Identifier r = Ok (moment_at r)
-end_in Comment r = Ok (moment_at r)
-end_in _ r = Err (head_refusal r)
+-- the last moment: the one that the last token ends, where it is a time that no white space follows; else what is shown from the last time on
+abbrev pub last_by : Option Moment → VcdReader → Moment
+last_by None r = moment_at r
+last_by (Some moment) r = moment
+
+abbrev pub end_in : Place → Option Moment → VcdReader → Result Moment RecordingRefusal
+end_in (Refused refusal) moment r = Err refusal
+end_in Body moment r = Ok (last_by moment r)
+end_in Identifier moment r = Ok (last_by moment r)
+end_in Comment moment r = Ok (last_by moment r)
+end_in _ moment r = Err (head_refusal r)
 
 -- ---- texts, the newest byte first
 

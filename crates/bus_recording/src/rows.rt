@@ -169,9 +169,13 @@ impl RowReader {
         }
     }
 
+    // The time of the row after the field, where rows say their times.
     fn time_at(&self) -> Option<u64>
         ensures { result ≡ spec.time_at self.now }
     {
+        if self.columns.step != 0 {
+            return self.fields.time;
+        }
         if self.column != 1 {
             return self.fields.time;
         }

@@ -41,7 +41,7 @@ fn a_dump_is_read(rt: HostRuntime) {
     );
     assert_eq!(rt;
         vcd_end(
-            b"$var wire 1 ! D0 $end $var reg 1 # D1 $end $timescale 1us $end $enddefinitions $end $dumpvars 1! b01 ! $end #3"
+            b"$var wire 1 ! D0 $end $var reg 1 # D1 $end $timescale 1us $end $enddefinitions $end $dumpvars 1! b01 ! $end #3\n"
         ),
         Ok(on_a(3_000_000, Sample::Plus))
     );

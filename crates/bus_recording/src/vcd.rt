@@ -100,12 +100,12 @@ impl VcdReader {
     /// What the text comes to where it ends here: its last moment, or its refusal.
     pub fn end(&mut self) -> Result<Moment, RecordingRefusal>
         ensures state { self.new ≡ spec.token_ended self.old }
-        ensures answer { result ≡ spec.end_in self.new.place self.new }
+        ensures answer { result ≡ spec.end_in self.new.place (spec.moment_ended self.old) self.new }
     {
-        let _ = self.end_token();
+        let ended = self.end_token();
         match self.place {
             Place::Refused(refusal) => Err(refusal),
-            Place::Body | Place::Identifier | Place::Comment => Ok(self.moment()),
+            Place::Body | Place::Identifier | Place::Comment => Ok(self.last_moment(ended)),
             Place::Head | Place::Scale | Place::Variable | Place::Section | Place::Definitions =>
                 Err(self.head_refusal()),
         }
@@ -332,6 +332,16 @@ impl VcdReader {
         Moment {
             at: self.time,
             pair: self.wires.pair(),
+        }
+    }
+
+    // The moment that the last token ended, or else what is shown from the last time on.
+    fn last_moment(&self, ended: Option<Moment>) -> Moment
+        ensures { result ≡ spec.last_by ended self.now }
+    {
+        match ended {
+            None => self.moment(),
+            Some(moment) => moment,
         }
     }
 

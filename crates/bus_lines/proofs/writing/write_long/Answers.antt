@@ -1,6 +1,6 @@
 use Rattle.std.proofs.Common.{List, ℕ, subst}
 use Rattle.bus_outside.specs.Causes.{WriteAdds}
-use Rattle.bus_lines.proofs.TellLaws.{written_all}
+use Rattle.bus_lines.proofs.RestLaws.{written_all}
 use Rattle.bus_lines.proofs.writing.write_long.Goals as goal
 
 pub returns-clause-owed : goal.returns-clause-owed
