@@ -8,3 +8,4 @@ pub mod WriteLaws
 pub mod TakeLaws
 pub mod ReadLaws
 pub mod ReadBackLaws
+pub mod StillLaws

@@ -75,30 +75,17 @@ module _ (known : ℕ → Column) (all : List ℕ) (from : ℕ) where
       subst (λ x. GrowsByFront a b (text-with x)) is
       (subst (GrowsByFront a b) (sym (with-more m (n - m))) (front-more a b (text-with m) (changes_text (changes_from known (from + m) (n - m))) front))
 
-  -- a tick more
-  pub drew-one : (t : ℕ) (drawer drawer' : Drawer) (line : DelayLine) (text text' : List ℕ) (first held : Option (List ℕ)) → from ≤ t →
-      drawer ≡ drawer_at known t → column_at line t ≡ known t → Owed (text-with (t - from)) text first held →
-      text' ≡ text ++ changes_text (tick_changes drawer.tick drawer.last (column_at line drawer.tick)) →
-      drawer' ≡ record { tick = drawer.tick + 1; last = (column_at line drawer.tick).shown } →
-      (drawer' ≡ drawer_at known (t + 1)) × Owed (text-with ((t + 1) - from)) text' first held
-  drew-one t drawer drawer' line text text' first held later is column owed drew next =
-      let tick : drawer.tick ≡ t = ap (λ (d : Drawer). d.tick) is in
-      let last : drawer.last ≡ shown_before known t = ap (λ (d : Drawer). d.last) is in
-      let more : suc (t - from) ≡ (t + 1) - from = omega (arith, later) in
+  -- some ticks more
+  pub drew-some : (t t' : ℕ) (text text' : List ℕ) (first held : Option (List ℕ)) → from ≤ t → t ≤ t' → Owed (text-with (t - from)) text first held →
+      text' ≡ text ++ changes_text (changes_from known t (t' - t)) → Owed (text-with (t' - from)) text' first held
+  drew-some t t' text text' first held later more owed drew =
+      let sum : (t - from) + (t' - t) ≡ t' - from = omega (arith, later, more) in
       let place : from + (t - from) ≡ t = omega (arith, later) in
-      let line-is : text' ≡ text ++ changes_text (changes_at known t) =
-      drew ∙ ap (λ n. text ++ changes_text (tick_changes n drawer.last (column_at line n))) tick
-      ∙ ap (λ (p : Pair). text ++ changes_text (tick_changes t p (column_at line t))) last
-      ∙ ap (λ (col : Column). text ++ changes_text (tick_changes t (shown_before known t) col)) column in
-      let drawer-is : drawer' ≡ drawer_at known (t + 1) =
-      next ∙ ap (drawer-with line) tick ∙ ap (drawer-shown (t + 1)) (ap (λ (col : Column). col.shown) column ∙ before-next known t) in (
-        drawer-is,
-        subst (λ m. Owed (text-with m) text' first held) more
-            (owed-whole (text-with (t - from)) (text-with (suc (t - from))) text text' first held owed (
-              changes_text (changes_at known t),
-              with-one (t - from) ∙ ap (λ n. text-with (t - from) ++ changes_text (changes_at known n)) place,
-              line-is,
-            )),
+      owed-whole (text-with (t - from)) (text-with (t' - from)) text text' first held owed (
+        changes_text (changes_from known t (t' - t)),
+        ap text-with (sym sum) ∙ with-more (t - from) (t' - t)
+            ∙ ap (λ n. text-with (t - from) ++ changes_text (changes_from known n (t' - t))) place,
+        drew,
       )
 
   -- a write that failed after some of them

@@ -1,34 +1,40 @@
 -- For which ticks a delay line stands, and what marks do to it. Nothing here has to be believed.
-use Rattle.std.specs.Prelude.{◌≡◌, ℕ, suc, ◌+◌, ◌%◌, ◌<◌, ◌≤◌, Bool, false, nat_le, if◌then◌else◌, List, [], ◌∷◌, get_or, length}
+use Rattle.std.specs.Prelude.{◌≡◌, ℕ, suc, ◌+◌, ◌%◌, ◌<◌, ◌≤◌, Bool, false, nat_le, nat_lt, if◌then◌else◌, List, [], ◌∷◌, get_or, length}
 use Rattle.bus_base.specs.declared.samples.Channel.{Channel}
+use Rattle.bus_base.specs.declared.samples.Channel.TheVariants.{A, B}
 use Rattle.bus_base.specs.declared.samples.Pair.{Pair}
-use Rattle.bus_base.specs.Samples.{quiet_pair}
-use Rattle.bus_wave.specs.Marks.{no_marks, blank}
+use Rattle.bus_wave.specs.Levels.{shown_in}
+use Rattle.bus_wave.specs.Marks.{no_marks, marked, blank}
 use Rattle.bus_wave.specs.Told.{Told}
 use Rattle.bus_wave.specs.Waves.{after, columns, horizon}
 use Rattle.bus_wave.specs.declared.marks.Column.{Column}
-use Rattle.bus_wave.specs.declared.marks.Cell.{Cell}
+use Rattle.bus_wave.specs.declared.marks.Mark.{Mark}
 use Rattle.bus_wave.specs.declared.marks.TickMarks.{TickMarks}
 use Rattle.bus_wave.specs.declared.delay_line.DelayLine.{DelayLine}
 
 -- ---- what it keeps
 
-abbrev pub no_cell : Cell
-no_cell = record { shown = quiet_pair; is_marked = false }
-
 abbrev pub no_tick_marks : TickMarks
 no_tick_marks = record { a = no_marks; b = no_marks }
 
--- the column of a tick: what was shown, and its marks, where it has any
-abbrev pub column_in : Cell → TickMarks → Column
+-- the marks with one more
+abbrev pub tick_marks_with : Channel → Mark → TickMarks → TickMarks
+tick_marks_with A mark marks = record marks { a = marked mark marks.a }
+tick_marks_with B mark marks = record marks { b = marked mark marks.b }
+
+-- the column of a tick: what was shown, and its marks, where it has any; a tick with marks has a number from 16 on
+abbrev pub column_in : ℕ → TickMarks → Column
 column_in cell marks = record {
-  shown = cell.shown;
-  a = if cell.is_marked then marks.a else no_marks;
-  b = if cell.is_marked then marks.b else no_marks;
+  shown = shown_in cell;
+  a = if nat_lt cell 16 then no_marks else marks.a;
+  b = if nat_lt cell 16 then no_marks else marks.b;
 }
 
+abbrev pub cell_at : DelayLine → ℕ → ℕ
+cell_at line t = get_or line.cells (t % 4096) 0
+
 abbrev pub column_at : DelayLine → ℕ → Column
-column_at line t = column_in (get_or line.cells (t % 4096) no_cell) (get_or line.marks (t % 4096) no_tick_marks)
+column_at line t = column_in (cell_at line t) (get_or line.marks (t % 4096) no_tick_marks)
 
 -- after so many ticks it keeps the columns of the last ones
 abbrev pub LineStands : DelayLine → ℕ → (ℕ → Column) → Type 0

@@ -2,6 +2,7 @@ pub mod Marks
 pub mod Texts
 pub mod Told
 pub mod Waves
+pub mod Levels
 pub mod Delays
 pub mod Steps
 pub mod Drawers

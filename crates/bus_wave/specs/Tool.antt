@@ -1,16 +1,10 @@
 -- What each answer of the program shows: how it came about, what was read, and what was written.
-use Rattle.std.specs.Prelude.{◌≡◌, ℕ, ◌≤◌, ◌⊎◌, List, [], ◌∷◌, codes, Option}
-use Rattle.std.specs.Io.KnownBytes.{Appends}
-use Rattle.bus_text.specs.Texts.{line}
-use Rattle.bus_outside.specs.Causes.{Rose, GrowsByFront}
+use Rattle.std.specs.Prelude.{◌≡◌, ℕ, ◌≤◌, List, [], ◌∷◌, Option}
+use Rattle.bus_refusals.specs.Refusals.{words_refused, WroteDue}
 use Rattle.bus_monitor.specs.Scribes.{ListingHasCause}
 use Rattle.bus_monitor.specs.declared.listing.Listing.{Listing}
 use Rattle.bus_monitor.specs.declared.listing.Listing.TheVariants.{Done, Refused, ReadFault, WriteFault}
 use Rattle.bus_wave.specs.Written.{IsDrawn}
-
--- the line where the words have no meaning
-abbrev pub words_refused : List ℕ
-words_refused = line (codes "words refused")
 
 -- 0 where the capture was read to its end and its whole wave was written; 3 where it is refused, and the wave of the ticks before and the
 -- refusal's comment were written; 4 where a read failed, and the wave of the ticks before was written; 5 where a write failed
@@ -26,7 +20,7 @@ module _ (left0 left1 held0 held1 : Option (List ℕ)) (source0 source1 sink0 si
     pub unread : left1 ≡ left0
     pub untried : source1 ≡ source0
     pub later : sink0 ≤ sink1
-    pub wrote : ((status ≡ 2) × Appends held0 held1 words_refused) ⊎ ((status ≡ 5) × Rose sink0 sink1 × GrowsByFront held0 held1 words_refused)
+    pub wrote : WroteDue held0 held1 sink0 sink1 status 2 words_refused
 
   -- the capture was drawn, with the status of how that ended; never for want of memory
   pub record EndsDrawn : Type 0 where

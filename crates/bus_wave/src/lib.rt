@@ -8,14 +8,20 @@
 
 pub mod delay_line;
 pub mod drawer;
+pub mod dump_text;
 pub mod laws;
+pub mod levels;
 pub mod line_marks;
 pub mod marking;
 pub mod marks;
 pub mod message_marks;
 pub mod message_names;
+pub mod stamp;
+#[cfg(test)]
+mod tests;
 pub mod text;
 pub mod tool;
+pub mod unmarked;
 pub mod wave_lister;
 pub mod wave_writer;
 pub mod writing;

@@ -1,6 +1,7 @@
 //! What is drawn besides the levels, and the column of what stands at one tick.
 ghost use Rattle.std.specs.Prelude.{◌≡◌, ◌&&◌};
-ghost use Rattle.bus_wave.specs.Marks.{marked, column_of, column_with, no_marks, is_unmarked};
+ghost use Rattle.bus_wave.specs.Marks.{marked, column_of, no_marks, is_unmarked};
+ghost use Rattle.bus_wave.specs.Delays.{tick_marks_with};
 
 use bus_base::{Channel, Pair};
 use bus_formats::Outcome;
@@ -80,13 +81,6 @@ pub struct Column {
     pub b: Marks,
 }
 
-/// What both channels show in a tick, and whether the tick has marks.
-#[derive(Clone, Copy)]
-pub struct Cell {
-    pub shown: Pair,
-    pub is_marked: bool,
-}
-
 /// The marks of both channels at a tick.
 #[derive(Clone, Copy)]
 pub struct TickMarks {
@@ -104,6 +98,7 @@ impl Marks {
     };
 
     /// Adds a mark, in the place of an earlier one of its line.
+    #[inline(always)]
     pub fn add(&mut self, mark: Mark)
         ensures { self.new ≡ marked mark self.old }
     {
@@ -124,6 +119,25 @@ impl Marks {
     }
 }
 
+impl TickMarks {
+    /// No marks.
+    pub const NONE: TickMarks = TickMarks {
+        a: Marks::NONE,
+        b: Marks::NONE,
+    };
+
+    /// Adds a mark of a channel.
+    #[inline(always)]
+    pub fn add(&mut self, channel: Channel, mark: Mark)
+        ensures { self.new ≡ tick_marks_with channel mark self.old }
+    {
+        match channel {
+            Channel::A => self.a.add(mark),
+            Channel::B => self.b.add(mark),
+        }
+    }
+}
+
 impl Column {
     /// The column of a tick that shows this, without marks.
     pub fn of(shown: Pair) -> Column
@@ -133,16 +147,6 @@ impl Column {
             shown,
             a: Marks::NONE,
             b: Marks::NONE,
-        }
-    }
-
-    /// Adds a mark of a channel.
-    pub fn add(&mut self, channel: Channel, mark: Mark)
-        ensures { self.new ≡ column_with channel mark self.old }
-    {
-        match channel {
-            Channel::A => self.a.add(mark),
-            Channel::B => self.b.add(mark),
         }
     }
 }

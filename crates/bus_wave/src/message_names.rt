@@ -3,13 +3,13 @@ ghost use Rattle.std.specs.Prelude.{◌≡◌, ◌+◌, ◌*◌, ◌<◌, ◌≤
 ghost use Rattle.bus_text.specs.Texts.{line, outcome_text};
 ghost use Rattle.bus_wave.specs.Texts.{message_text, escaped, commands_text, second_text, command_text, direction_text, rest_text, open_text};
 
+use crate::dump_text::DumpText;
 use crate::marks::{Commands, MessageMark};
 use bus_formats::Outcome;
-use bus_monitor::Page;
 use bus_text::Line;
 use bus_words::Command;
 
-pub(crate) fn add_name(mark: MessageMark, text: &mut Page)
+pub(crate) fn add_name(mark: MessageMark, text: &mut DumpText)
     requires { length text.old ≤ 3801 }
     ensures text { text.new ≡ text.old ++ message_text mark }
     ensures grows { length text.new ≤ length text.old + 269 }
@@ -25,7 +25,7 @@ pub(crate) fn add_name(mark: MessageMark, text: &mut Page)
     }
 }
 
-fn add_open(commands: Option<Commands>, text: &mut Page)
+fn add_open(commands: Option<Commands>, text: &mut DumpText)
     requires { length text.old ≤ 3801 }
     ensures text { text.new ≡ text.old ++ open_text commands }
     ensures grows { length text.new ≤ length text.old + 140 }
@@ -39,7 +39,7 @@ fn add_open(commands: Option<Commands>, text: &mut Page)
     }
 }
 
-fn add_outcome(outcome: Outcome, text: &mut Page)
+fn add_outcome(outcome: Outcome, text: &mut DumpText)
     requires { length text.old ≤ 3940 }
     ensures text { text.new ≡ text.old ++ escaped (outcome_text outcome) }
     ensures grows { length text.new ≤ length text.old + 140 }
@@ -49,7 +49,7 @@ fn add_outcome(outcome: Outcome, text: &mut Page)
     add_escaped(line.as_bytes(), text);
 }
 
-fn add_escaped(bytes: &[u8], text: &mut Page)
+fn add_escaped(bytes: &[u8], text: &mut DumpText)
     requires { length text.old + 4 * length bytes.now ≤ 4096 }
     ensures text { text.new ≡ text.old ++ escaped bytes.now }
     ensures grows { length text.new ≤ length text.old + 4 * length bytes.now }
@@ -63,7 +63,7 @@ fn add_escaped(bytes: &[u8], text: &mut Page)
     }
 }
 
-fn add_commands(commands: Commands, text: &mut Page)
+fn add_commands(commands: Commands, text: &mut DumpText)
     requires { length text.old ≤ 3801 }
     ensures text { text.new ≡ text.old ++ commands_text commands }
     ensures grows { length text.new ≤ length text.old + 129 }
@@ -72,7 +72,7 @@ fn add_commands(commands: Commands, text: &mut Page)
     add_second(commands.second, text);
 }
 
-fn add_second(second: Option<u16>, text: &mut Page)
+fn add_second(second: Option<u16>, text: &mut DumpText)
     requires { length text.old ≤ 3900 }
     ensures text { text.new ≡ text.old ++ second_text second }
     ensures grows { length text.new ≤ length text.old + 65 }
@@ -83,7 +83,7 @@ fn add_second(second: Option<u16>, text: &mut Page)
     }
 }
 
-fn add_command(command: Command, text: &mut Page)
+fn add_command(command: Command, text: &mut DumpText)
     requires { length text.old ≤ 4000 }
     ensures text { text.new ≡ text.old ++ command_text command }
     ensures grows { length text.new ≤ length text.old + 64 }
@@ -93,7 +93,7 @@ fn add_command(command: Command, text: &mut Page)
     add_rest(command, text);
 }
 
-fn add_direction(transmit: bool, text: &mut Page)
+fn add_direction(transmit: bool, text: &mut DumpText)
     requires { length text.old ≤ 4050 }
     ensures text { text.new ≡ text.old ++ direction_text transmit }
     ensures grows { length text.new ≤ length text.old + 3 }
@@ -105,7 +105,7 @@ fn add_direction(transmit: bool, text: &mut Page)
     }
 }
 
-fn add_rest(command: Command, text: &mut Page)
+fn add_rest(command: Command, text: &mut DumpText)
     requires { length text.old ≤ 4050 }
     ensures text { text.new ≡ text.old ++ rest_text command }
     ensures grows { length text.new ≤ length text.old + 41 }

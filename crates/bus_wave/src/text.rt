@@ -34,11 +34,11 @@ ghost use Rattle.bus_wave.specs.Texts.{
   offset_comment,
 };
 
+use crate::dump_text::DumpText;
 use crate::marks::{Column, Marks, MessageMark, SenderMark, WordMark};
 use crate::message_names::add_name;
 use bus_base::{Channel, Pair, Sample};
 use bus_capture::CaptureRefusal;
-use bus_monitor::Page;
 use bus_words::Command;
 
 /// The head: the lines that a dump begins with, and what stands before the first tick.
@@ -46,8 +46,8 @@ pub const HEAD: &str =
     "$comment 1553 wave 1 $end\n$timescale 100 ns $end\n$scope module bus $end\n$var wire 1 L A $end\n$var wire 1 N A_neg $end\n$var string 1 W A_word $end\n$var string 1 M A_message $end\n$var string 1 T A_sender $end\n$var real 64 G A_gap $end\n$var wire 1 l B $end\n$var wire 1 n B_neg $end\n$var string 1 w B_word $end\n$var string 1 m B_message $end\n$var string 1 t B_sender $end\n$var real 64 g B_gap $end\n$upscope $end\n$enddefinitions $end\n#0\n$dumpvars\nzL\n0N\ns W\ns M\ns T\nr0 G\nzl\n0n\ns w\ns m\ns t\nr0 g\n$end\n";
 
 /// Adds the lines of a tick, by what the tick before showed.
-#[inline(always)]
-pub fn add_tick(tick: u64, before: Pair, column: &Column, text: &mut Page)
+#[inline(never)]
+pub fn add_tick(tick: u64, before: Pair, column: &Column, text: &mut DumpText)
     requires time { tick < 2 ^ 61 }
     requires room { length text.old ≤ 3000 }
     ensures text { text.new ≡ text.old ++ changes_text (tick_changes tick before column.now) }
@@ -68,7 +68,7 @@ fn is_still(before: Pair, column: &Column) -> bool
         && column.b.is_none()
 }
 
-fn add_changes(tick: u64, before: Pair, column: &Column, text: &mut Page)
+fn add_changes(tick: u64, before: Pair, column: &Column, text: &mut DumpText)
     requires time { tick < 2 ^ 61 }
     requires room { length text.old ≤ 3000 }
     ensures text { text.new ≡ text.old ++ changes_text (changes_of tick before column.now) }
@@ -82,7 +82,7 @@ fn add_changes(tick: u64, before: Pair, column: &Column, text: &mut Page)
 }
 
 /// Adds the time of a tick, where that isn't the first one.
-pub fn add_time(tick: u64, text: &mut Page)
+pub fn add_time(tick: u64, text: &mut DumpText)
     requires time { tick < 2 ^ 61 }
     requires room { length text.old ≤ 4000 }
     ensures text { text.new ≡ text.old ++ changes_text (time_change tick) }
@@ -93,7 +93,7 @@ pub fn add_time(tick: u64, text: &mut Page)
     }
 }
 
-fn add_later(tick: u64, text: &mut Page)
+fn add_later(tick: u64, text: &mut DumpText)
     requires time { tick < 2 ^ 61 }
     requires room { length text.old ≤ 4000 }
     ensures text { text.new ≡ text.old ++ change_text (time tick) }
@@ -104,7 +104,8 @@ fn add_later(tick: u64, text: &mut Page)
     text.end();
 }
 
-fn add_levels(channel: Channel, before: Sample, now: Sample, text: &mut Page)
+#[inline(always)]
+pub(crate) fn add_levels(channel: Channel, before: Sample, now: Sample, text: &mut DumpText)
     requires { length text.old ≤ 4000 }
     ensures text { text.new ≡ text.old ++ changes_text (level_changes channel before now) }
     ensures grows { length text.new ≤ length text.old + 6 }
@@ -113,7 +114,8 @@ fn add_levels(channel: Channel, before: Sample, now: Sample, text: &mut Page)
     add_negative(channel, before, now, text);
 }
 
-fn add_level(channel: Channel, before: Sample, now: Sample, text: &mut Page)
+#[inline(always)]
+fn add_level(channel: Channel, before: Sample, now: Sample, text: &mut DumpText)
     requires { length text.old ≤ 4050 }
     ensures text { text.new ≡ text.old ++ changes_text (level_change channel before now) }
     ensures grows { length text.new ≤ length text.old + 3 }
@@ -123,7 +125,8 @@ fn add_level(channel: Channel, before: Sample, now: Sample, text: &mut Page)
     }
 }
 
-fn add_negative(channel: Channel, before: Sample, now: Sample, text: &mut Page)
+#[inline(always)]
+fn add_negative(channel: Channel, before: Sample, now: Sample, text: &mut DumpText)
     requires { length text.old ≤ 4050 }
     ensures text { text.new ≡ text.old ++ changes_text (negative_change channel before now) }
     ensures grows { length text.new ≤ length text.old + 3 }
@@ -134,7 +137,7 @@ fn add_negative(channel: Channel, before: Sample, now: Sample, text: &mut Page)
 }
 
 /// Adds the lines of the marks of a channel.
-pub fn add_marks(channel: Channel, marks: &Marks, text: &mut Page)
+pub fn add_marks(channel: Channel, marks: &Marks, text: &mut DumpText)
     requires { length text.old ≤ 3700 }
     ensures text { text.new ≡ text.old ++ changes_text (mark_changes channel marks.now) }
     ensures grows { length text.new ≤ length text.old + 340 }
@@ -145,7 +148,7 @@ pub fn add_marks(channel: Channel, marks: &Marks, text: &mut Page)
     add_word(channel, marks.word, text);
 }
 
-fn add_message(channel: Channel, mark: Option<MessageMark>, text: &mut Page)
+fn add_message(channel: Channel, mark: Option<MessageMark>, text: &mut DumpText)
     requires { length text.old ≤ 3800 }
     ensures text { text.new ≡ text.old ++ changes_text (change_if (message channel) mark) }
     ensures grows { length text.new ≤ length text.old + 273 }
@@ -157,7 +160,7 @@ fn add_message(channel: Channel, mark: Option<MessageMark>, text: &mut Page)
     }
 }
 
-fn add_sender(channel: Channel, mark: Option<SenderMark>, text: &mut Page)
+fn add_sender(channel: Channel, mark: Option<SenderMark>, text: &mut DumpText)
     requires { length text.old ≤ 4020 }
     ensures text { text.new ≡ text.old ++ changes_text (change_if (sender channel) mark) }
     ensures grows { length text.new ≤ length text.old + 26 }
@@ -169,7 +172,7 @@ fn add_sender(channel: Channel, mark: Option<SenderMark>, text: &mut Page)
     }
 }
 
-fn add_gap(channel: Channel, mark: Option<u64>, text: &mut Page)
+fn add_gap(channel: Channel, mark: Option<u64>, text: &mut DumpText)
     requires { length text.old ≤ 4040 }
     ensures text { text.new ≡ text.old ++ changes_text (change_if (gap channel) mark) }
     ensures grows { length text.new ≤ length text.old + 26 }
@@ -182,7 +185,7 @@ fn add_gap(channel: Channel, mark: Option<u64>, text: &mut Page)
     }
 }
 
-fn add_word(channel: Channel, mark: Option<WordMark>, text: &mut Page)
+fn add_word(channel: Channel, mark: Option<WordMark>, text: &mut DumpText)
     requires { length text.old ≤ 4070 }
     ensures text { text.new ≡ text.old ++ changes_text (change_if (word channel) mark) }
     ensures grows { length text.new ≤ length text.old + 13 }
@@ -194,7 +197,7 @@ fn add_word(channel: Channel, mark: Option<WordMark>, text: &mut Page)
     }
 }
 
-fn add_half(quiet: u64, text: &mut Page)
+fn add_half(quiet: u64, text: &mut DumpText)
     requires { length text.old ≤ 4080 }
     ensures text { text.new ≡ text.old ++ half_text quiet }
     ensures grows { length text.new ≤ length text.old + 2 }
@@ -206,7 +209,7 @@ fn add_half(quiet: u64, text: &mut Page)
     }
 }
 
-fn end_line(channel: Channel, capital: u8, text: &mut Page)
+fn end_line(channel: Channel, capital: u8, text: &mut DumpText)
     requires capital { capital < 128 }
     requires room { length text.old ≤ 4090 }
     ensures text { text.new ≡ line (text.old ++ id_text channel capital) }
@@ -215,7 +218,7 @@ fn end_line(channel: Channel, capital: u8, text: &mut Page)
     text.add(&[b' ', letter(channel, capital), b'\n']);
 }
 
-fn add_terminal(mark: SenderMark, text: &mut Page)
+fn add_terminal(mark: SenderMark, text: &mut DumpText)
     requires { length text.old ≤ 4060 }
     ensures text { text.new ≡ text.old ++ sender_text mark }
     ensures grows { length text.new ≤ length text.old + 22 }
@@ -231,7 +234,7 @@ fn add_terminal(mark: SenderMark, text: &mut Page)
     }
 }
 
-fn add_slot(mark: WordMark, text: &mut Page)
+fn add_slot(mark: WordMark, text: &mut DumpText)
     requires { length text.old ≤ 4080 }
     ensures text { text.new ≡ text.old ++ word_text mark }
     ensures grows { length text.new ≤ length text.old + 9 }
@@ -252,7 +255,7 @@ fn add_slot(mark: WordMark, text: &mut Page)
 }
 
 /// Adds the comment of a refused capture.
-pub fn add_refusal(refusal: CaptureRefusal, text: &mut Page)
+pub fn add_refusal(refusal: CaptureRefusal, text: &mut DumpText)
     requires { length text.old ≤ 4000 }
     ensures { text.new ≡ text.old ++ refusal_comment refusal }
 {
@@ -264,7 +267,7 @@ pub fn add_refusal(refusal: CaptureRefusal, text: &mut Page)
     }
 }
 
-fn add_offset(name: &str, offset: u64, text: &mut Page)
+fn add_offset(name: &str, offset: u64, text: &mut DumpText)
     requires name { length name.now ≤ 14 }
     requires room { length text.old ≤ 4000 }
     ensures { text.new ≡ text.old ++ offset_comment name.now offset }
@@ -276,7 +279,8 @@ fn add_offset(name: &str, offset: u64, text: &mut Page)
     text.end();
 }
 
-fn letter(channel: Channel, capital: u8) -> u8
+#[inline(always)]
+pub(crate) fn letter(channel: Channel, capital: u8) -> u8
     requires { capital < 128 }
     ensures { result ≡ letter channel capital }
 {
@@ -286,7 +290,8 @@ fn letter(channel: Channel, capital: u8) -> u8
     }
 }
 
-fn level_byte(sample: Sample) -> u8
+#[inline(always)]
+pub(crate) fn level_byte(sample: Sample) -> u8
     ensures { result ≡ level_byte sample }
 {
     match sample {
@@ -296,14 +301,15 @@ fn level_byte(sample: Sample) -> u8
     }
 }
 
-fn bit_byte(bit: bool) -> u8
+#[inline(always)]
+pub(crate) fn bit_byte(bit: bool) -> u8
     ensures { result ≡ bit_byte bit }
 {
     if bit { b'1' } else { b'0' }
 }
 
 #[inline(always)]
-fn is_minus(sample: Sample) -> bool
+pub(crate) fn is_minus(sample: Sample) -> bool
     ensures { result ≡ is_minus sample }
 {
     match sample {
@@ -325,7 +331,7 @@ pub fn same(before: Sample, now: Sample) -> bool
 }
 
 #[inline(always)]
-fn same_bit(before: bool, now: bool) -> bool
+pub(crate) fn same_bit(before: bool, now: bool) -> bool
     ensures { result ≡ same_bool before now }
 {
     match (before, now) {

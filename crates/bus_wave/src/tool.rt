@@ -1,12 +1,11 @@
 //! The top call of the program `mastrolu-wave`.
-ghost use Rattle.std.specs.Prelude.{◌≡◌, ◌≤◌, ◌⊎◌, map, string_bytes};
-ghost use Rattle.std.specs.Io.KnownBytes.{Appends};
-ghost use Rattle.bus_outside.specs.Causes.{Rose, GrowsByFront};
-ghost use Rattle.bus_wave.specs.Tool.{Ends, words_refused, status_of as status_after};
+ghost use Rattle.std.specs.Prelude.{◌≡◌, map, string_bytes};
+ghost use Rattle.bus_wave.specs.Tool.{Ends, status_of as status_after};
 
 use crate::write_wave;
 use bus_monitor::Listing;
 use bus_outside::{Sink, Source};
+use bus_refusals::refuse_words;
 
 /// Writes the wave of a capture, and answers the program's status. The words are the command line without the program's name, of which no word has a
 /// meaning.
@@ -23,17 +22,6 @@ pub fn wave_tool<S: Source, K: Sink>(words: &[String], source: &mut S, sink: &mu
     match words {
         [] => status_of(write_wave(source, sink)),
         _ => refuse_words(sink),
-    }
-}
-
-fn refuse_words<K: Sink>(sink: &mut K) -> u8
-    ensures wrote { ((result ≡ 2) × Appends (K.held sink.old) (K.held sink.new) words_refused)
-        ⊎ ((result ≡ 5) × Rose (K.faults sink.old) (K.faults sink.new) × GrowsByFront (K.held sink.old) (K.held sink.new) words_refused) }
-    ensures later { K.faults sink.old ≤ K.faults sink.new }
-{
-    match sink.write(b"words refused\n") {
-        Ok(()) => 2,
-        Err(_) => 5,
     }
 }
 

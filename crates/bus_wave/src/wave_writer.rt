@@ -13,6 +13,8 @@ ghost use Rattle.bus_wave.specs.declared.marks.Column.{Column};
 
 use crate::delay_line::HORIZON;
 use crate::drawer::Drawer;
+use crate::dump_text::DumpText;
+use crate::stamp::Stamp;
 use crate::text::HEAD;
 use crate::wave_lister::WaveLister;
 use bus_monitor::{ListingWriter, Page, Stop};
@@ -24,7 +26,9 @@ pub struct WaveWriter {
     /// It reads and hears; its own text stays empty.
     pub hearing: ListingWriter<WaveLister>,
     pub drawer: Drawer,
-    pub text: Page,
+    /// The first digits of the time that was written last.
+    pub stamp: Stamp,
+    pub text: DumpText,
 }
 
 impl WaveWriter {
@@ -32,11 +36,12 @@ impl WaveWriter {
     pub fn new() -> WaveWriter
         ensures { (first : Option (List ℕ)) → WaveFollows result [] first first }
     {
-        let mut text = Page::new();
+        let mut text = DumpText::new();
         text.text(HEAD);
         WaveWriter {
             hearing: ListingWriter::new(WaveLister::new(), Page::new()),
             drawer: Drawer::new(),
+            stamp: Stamp::of(0),
             text,
         }
     }
@@ -81,7 +86,12 @@ impl WaveWriter {
         ensures cause { FaultHasCause (K.faults sink.old) (K.faults sink.new) result }
     {
         'ticks: while self.drawer.tick < end {
-            self.drawer.draw(&self.hearing.lister.line, &mut self.text);
+            self.drawer.draw_next(
+                &self.hearing.lister.line,
+                end,
+                &mut self.stamp,
+                &mut self.text,
+            );
             match write_long(&mut self.text, sink) {
                 Ok(()) => {}
                 Err(stop) => return Err(stop),
@@ -100,14 +110,23 @@ pub fn undrawn(ticks: u64) -> u64
 
 // Writes a text that leaves no room for another tick's lines.
 #[inline(always)]
-fn write_long<K: Sink>(text: &mut Page, sink: &mut K) -> Result<(), Stop>
+fn write_long<K: Sink>(text: &mut DumpText, sink: &mut K) -> Result<(), Stop>
     ensures owed { (all : List ℕ) (first : Option (List ℕ)) → Owed all text.old first (K.held sink.old) →
         OwedSo all text.new first (K.held sink.new) result }
     ensures cause { FaultHasCause (K.faults sink.old) (K.faults sink.new) result }
 {
-    if text.as_bytes().len() <= 3000 {
+    if text.len() <= 3000 {
         return Ok(());
     }
+    write_out(text, sink)
+}
+
+#[inline(never)]
+fn write_out<K: Sink>(text: &mut DumpText, sink: &mut K) -> Result<(), Stop>
+    ensures owed { (all : List ℕ) (first : Option (List ℕ)) → Owed all text.old first (K.held sink.old) →
+        OwedSo all text.new first (K.held sink.new) result }
+    ensures cause { FaultHasCause (K.faults sink.old) (K.faults sink.new) result }
+{
     match write(text, sink) {
         Ok(()) => Ok(()),
         Err(_) => Err(Stop::WriteFault),
@@ -115,7 +134,7 @@ fn write_long<K: Sink>(text: &mut Page, sink: &mut K) -> Result<(), Stop>
 }
 
 /// Writes the text that was held back.
-pub fn write<K: Sink>(text: &mut Page, sink: &mut K) -> Result<(), Failed>
+pub fn write<K: Sink>(text: &mut DumpText, sink: &mut K) -> Result<(), Failed>
     ensures text { text.new ≡ [] }
     ensures held { WriteAdds (K.held sink.old) (K.held sink.new) result text.old }
     ensures cause { HasCause (K.faults sink.old) (K.faults sink.new) result }

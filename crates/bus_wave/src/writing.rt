@@ -20,10 +20,11 @@ ghost use Rattle.bus_wave.specs.Written.{
 };
 
 use crate::drawer::draw_end;
+use crate::dump_text::DumpText;
 use crate::text::add_refusal;
 use crate::wave_lister::WaveLister;
 use crate::wave_writer::{WaveWriter, write};
-use bus_monitor::{Listing, ListingWriter, Page, Stop};
+use bus_monitor::{Listing, ListingWriter, Stop};
 use bus_outside::{Sink, Source};
 
 // The most bytes that are read: one more than a capture text has.
@@ -167,7 +168,7 @@ fn close<K: Sink>(writer: &mut WaveWriter, ending: Listing, sink: &mut K) -> Lis
     }
 }
 
-fn add_comment(ending: Listing, text: &mut Page)
+fn add_comment(ending: Listing, text: &mut DumpText)
     requires { length text.old ≤ 4000 }
     ensures { text.new ≡ text.old ++ comment_of ending }
 {

@@ -1,10 +1,8 @@
-use Rattle.std.proofs.Common.{ap, ◌∙◌, arith}
-use Rattle.bus_wave.specs.Marks.{column_with}
+use Rattle.std.proofs.Common.{arith}
 use Rattle.bus_wave.proofs.DelayLaws.{mark-added}
 use Rattle.bus_wave.proofs.delay_line.DelayLine.mark.Goals as goal
 
 pub returns-then-ticks-tick-le-HORIZON : goal.returns-then-ticks-tick-le-HORIZON
 returns-then-ticks-tick-le-HORIZON c =
-    mark-added c.args.self.now c.put.new.self c.args.channel c.args.ticks c.args.tick c.args.mark c.add.new.self (omega (arith, c.if-tick-ticks.true))
-    (omega (arith, c.if-ticks-tick-le-HORIZON.true)) (c.add.ensures ∙ ap (column_with c.args.channel c.args.mark) c.column-column.ensures)
-    c.put.ensures.put c.put.ensures.others
+    mark-added c.args.self.now c.add.new.self c.args.channel c.args.ticks c.args.tick c.args.mark (omega (arith, c.if-tick-ticks.true))
+    (omega (arith, c.if-ticks-tick-le-HORIZON.true)) c.add.ensures.put c.add.ensures.others

@@ -1,6 +1,6 @@
 use Rattle.std.proofs.Common.{arith}
 use Rattle.bus_monitor.proofs.WriterLaws.{wrote, owed-front}
-use Rattle.bus_wave.proofs.wave_writer.write_long.Goals as goal
+use Rattle.bus_wave.proofs.wave_writer.write_out.Goals as goal
 
 pub returns-in-Ok-clause-owed : goal.returns-in-Ok-clause-owed
 returns-in-Ok-clause-owed g c all first owed =
