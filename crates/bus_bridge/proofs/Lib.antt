@@ -1,2 +1,9 @@
 pub mod Numbers
 pub mod Several
+pub mod Kept
+pub mod Tables
+pub mod Handed
+pub mod Loaded
+pub mod Ticks
+pub mod FirstBus
+pub mod SecondBus

@@ -2,6 +2,7 @@
 ghost use Rattle.std.specs.Prelude.{◌≡◌, ◌≤◌, ◌<◌, ◌+◌, ◌^◌, [], ◌∷◌, length, take, drop, IfSome, Some};
 ghost use Rattle.bus_decimal.specs.Decimal as decimal;
 ghost use Rattle.bus_bridge.specs.Headers as spec;
+ghost use Rattle.bus_bridge.specs.Ranges.{Sends, AllSend};
 
 use arrayvec::ArrayVec;
 use bus_decimal::number_up_to;
@@ -29,13 +30,14 @@ pub struct Pairings {
 
 impl Model for Pairings {
     ghost use Rattle.std.specs.Prelude.{List, ◌≤◌, length};
+    ghost use Rattle.bus_bridge.specs.Ranges.{AllSend};
     ghost use Rattle.bus_bridge.specs.declared.pairings.Pairing.{Pairing};
 
     ghost Value = { List Pairing };
 
     ghost view = { λ p. p.held.items };
 
-    ghost invariant = { λ p. length p.held.items ≤ 29 };
+    ghost invariant = { λ p. (length p.held.items ≤ 29) × AllSend p.held.items };
 
     ghost inverse = { λ ps. record { held = record { items = ps } } };
 }
@@ -43,6 +45,7 @@ impl Model for Pairings {
 impl Pairings {
     /// One alone.
     pub fn one(pairing: Pairing) -> Pairings
+        requires { Sends pairing }
         ensures { result ≡ pairing ∷ [] }
     {
         let mut held = ArrayVec::new();
@@ -54,13 +57,26 @@ impl Pairings {
     pub fn as_slice(&self) -> &[Pairing]
         ensures value { result.now ≡ self.now }
         ensures fits { length result.now ≤ 29 }
+        ensures send { AllSend result.now }
     {
         self.held.as_slice()
     }
 
+    /// The same pairings once more. It takes no memory.
+    pub fn copy(&self) -> Pairings
+        ensures { result ≡ self.now }
+    {
+        let mut held = ArrayVec::new();
+        for pairing in self.as_slice() {
+            held.push(*pairing);
+        }
+        Pairings { held }
+    }
+
     // With one more in front, for which there is room.
     fn after(mut self, first: Pairing) -> Pairings
-        requires { length self < 29 }
+        requires room { length self < 29 }
+        requires sends { Sends first }
         ensures { result ≡ first ∷ self }
     {
         self.held.insert(0, first);
@@ -87,6 +103,7 @@ pub fn pairings_in(most: u8, text: &[u8]) -> Option<Pairings>
 }
 
 fn alone(pairing: Option<Pairing>) -> Option<Pairings>
+    requires { IfSome pairing Sends }
     ensures value { result ≡ spec.alone pairing }
     ensures few { IfSome result (λ pairs. length pairs ≤ 1) }
 {
@@ -97,7 +114,8 @@ fn alone(pairing: Option<Pairing>) -> Option<Pairings>
 }
 
 fn led_by(first: Option<Pairing>, rest: Option<Pairings>) -> Option<Pairings>
-    requires { IfSome rest (λ pairs. length pairs < 29) }
+    requires sends { IfSome first Sends }
+    requires room { IfSome rest (λ pairs. length pairs < 29) }
     ensures { result ≡ spec.led_by first rest }
 {
     match (first, rest) {
@@ -108,7 +126,8 @@ fn led_by(first: Option<Pairing>, rest: Option<Pairings>) -> Option<Pairings>
 
 /// `<from>:<to>`; none for any other text.
 pub fn pairing_in(text: &[u8]) -> Option<Pairing>
-    ensures { result ≡ spec.pairing_in text.now }
+    ensures value { result ≡ spec.pairing_in text.now }
+    ensures sends { IfSome result Sends }
 {
     match place_of(b':', text) {
         None => None,
@@ -122,7 +141,8 @@ pub fn pairing_in(text: &[u8]) -> Option<Pairing>
 fn pairing_with(from: Option<u64>, to: Option<u64>) -> Option<Pairing>
     requires from { IfSome from (λ n. n ≤ 30) }
     requires to { IfSome to (λ n. n ≤ 29) }
-    ensures { result ≡ spec.pairing_with from to }
+    ensures value { result ≡ spec.pairing_with from to }
+    ensures sends { IfSome result Sends }
 {
     match (from, to) {
         (Some(from), Some(to)) => pairing_of(from as u8, to as u8),
@@ -131,7 +151,9 @@ fn pairing_with(from: Option<u64>, to: Option<u64>) -> Option<Pairing>
 }
 
 fn pairing_of(from: u8, to: u8) -> Option<Pairing>
-    ensures { result ≡ spec.pairing_of from to }
+    requires { to ≤ 29 }
+    ensures value { result ≡ spec.pairing_of from to }
+    ensures sends { IfSome result Sends }
 {
     if from > 0 && to > 0 {
         Some(Pairing { from, to })

@@ -8,3 +8,5 @@ pub mod TablesRun
 pub mod Surveying
 pub mod Benching
 mod Loading
+mod BridgeEnds
+mod RefusedLine

@@ -13,6 +13,7 @@ use Rattle.bus_retry.specs.declared.Choice.TheVariants.{Again, Done}
 use Rattle.bus_retry.specs.Retries.{next_of}
 use Rattle.bus_model.specs.Attempts.{Begun, Ended}
 use Rattle.bus_model.specs.Controller.{ending_now}
+use Rattle.bus_model.specs.Memory.{TimedLoad}
 use Rattle.bus_model.specs.Starts.{Entry, entries_in, entries_from, repeated, agenda, left_after, starts, start_of}
 use Rattle.bus_model.specs.Course.{Course, Take, quiet_from, begin_entry, run_by, runs_next, close_or_run, run_on, take_control, with_takes}
 use Rattle.bus_model.specs.Course.{at_first, course}
@@ -116,47 +117,52 @@ course-fits k station first takes (shown ∷ past) ranges =
 
 -- ---- the attempts of all stations
 
-at-fits : (plan : PlanData) (address tick : ℕ) (ended : List Attempt) → All AttemptFits ended →
-    All AttemptFits (attempt_at LAG plan [] [] [] address tick ended)
-at-fits plan address tick [] fit = All-nil AttemptFits
-at-fits plan address tick (attempt ∷ others) fit = one (attempt.ended.0 == tick)
+at-fits : (plan : PlanData) (loads : List TimedLoad) (address tick : ℕ) (ended : List Attempt) → All AttemptFits ended →
+    All AttemptFits (attempt_at LAG plan loads [] [] address tick ended)
+at-fits plan loads address tick [] fit = All-nil AttemptFits
+at-fits plan loads address tick (attempt ∷ others) fit = one (attempt.ended.0 == tick)
   where
     one : (test : Bool) → All AttemptFits (if test then record attempt { station = address } ∷ [] else [])
     one true = All-cons AttemptFits (record attempt { station = address }) [] (All-head AttemptFits attempt others fit) (All-nil AttemptFits)
     one false = All-nil AttemptFits
 
-module _ (plan : PlanData) where
+module _ (plan : PlanData) (loads : List TimedLoad) where
   by-fits : (past : List Pair) (tick : ℕ) (station : StationData) → HasStationRanges station →
-      All AttemptFits (ended_by LAG plan [] [] [] past tick station)
+      All AttemptFits (ended_by LAG plan loads [] [] past tick station)
   by-fits past tick station ranges =
-      at-fits plan station.terminal.address tick (course_of LAG plan [] [] [] station past).ended
+      at-fits plan loads station.terminal.address tick (course_of LAG plan loads [] [] station past).ended
       (course-fits LAG station (starts plan station) _ past ranges).ended
 
   all-by : (past : List Pair) (tick : ℕ) (stations : List StationData) → All HasStationRanges stations →
-      All AttemptFits (flat_map (ended_by LAG plan [] [] [] past tick) stations)
+      All AttemptFits (flat_map (ended_by LAG plan loads [] [] past tick) stations)
   all-by past tick [] ranges = All-nil AttemptFits
   all-by past tick (station ∷ others) ranges =
-      All-append AttemptFits (ended_by LAG plan [] [] [] past tick station) (flat_map (ended_by LAG plan [] [] [] past tick) others)
+      All-append AttemptFits (ended_by LAG plan loads [] [] past tick station) (flat_map (ended_by LAG plan loads [] [] past tick) others)
       (by-fits past tick station (All-head HasStationRanges station others ranges))
       (all-by past tick others (All-tail HasStationRanges station others ranges))
 
-  attempts-fit : (past : List Pair) → All HasStationRanges plan.stations → All AttemptFits (attempts LAG plan [] [] [] past)
+  pub attempts-fit : (past : List Pair) → All HasStationRanges plan.stations → All AttemptFits (attempts LAG plan loads [] [] past)
   unfolding attempts
   attempts-fit [] ranges = All-nil AttemptFits
   attempts-fit (shown ∷ past) ranges =
-      All-append AttemptFits (attempts LAG plan [] [] [] past)
-      (flat_map (ended_by LAG plan [] [] [] (shown ∷ past) (length past)) (present_stations LAG plan [] [] []))
+      All-append AttemptFits (attempts LAG plan loads [] [] past)
+      (flat_map (ended_by LAG plan loads [] [] (shown ∷ past) (length past)) (present_stations LAG plan loads [] []))
       (attempts-fit past ranges)
-      (all-by (shown ∷ past) (length past) (present_stations LAG plan [] [] [])
+      (all-by (shown ∷ past) (length past) (present_stations LAG plan loads [] [])
       (All-filter (is_present []) HasStationRanges plan.stations ranges))
+
+-- those of a world over these loads
+pub world-fits : (plan : PlanData) (loads : List TimedLoad) (past : List Pair) (a : Attempt) (i : ℕ) → IsAccepted plan →
+    slice_get (attempts LAG plan loads [] [] past) i ≡ Some a → HasKindRanges a.kind
+world-fits plan loads past a i accepted is =
+    let fit = attempts-fit plan loads past accepted.ranges in
+    let found = attempts LAG plan loads [] [] past in
+    let within : i < length found = slice_get_within found i a is in
+    let same : get_or found i a ≡ a = get_or_from_slice_get found i a a is in
+    rw same at (All-get_or AttemptFits found i a within fit)
 
 -- those of the log
 pub log-fits : (plan : PlanData) (ticks : ℕ) (a : Attempt) (i : ℕ) → IsAccepted plan → slice_get (world_log LAG plan ticks).attempts i ≡ Some a →
     HasKindRanges a.kind
 unfolding world_log
-log-fits plan ticks a i accepted is =
-    let fit = attempts-fit plan (world LAG plan [] [] [] ticks) accepted.ranges in
-    let found = attempts LAG plan [] [] [] (world LAG plan [] [] [] ticks) in
-    let within : i < length found = slice_get_within found i a is in
-    let same : get_or found i a ≡ a = get_or_from_slice_get found i a a is in
-    rw same at (All-get_or AttemptFits found i a within fit)
+log-fits plan ticks a i accepted is = world-fits plan [] (world LAG plan [] [] [] ticks) a i accepted is

@@ -29,6 +29,7 @@ use Rattle.bus_survey.specs.Surveys.{logs_of, SurveyedBefore}
 use Rattle.bus_refusals.specs.Refusals.{WroteDue, words_refused, capture_refusal_line}
 use Rattle.bus_tool.specs.Due.{limit, input_refusal, load_refusal, IsDue, IsSurveyDue, IsLoadDue}
 use Rattle.bus_tool.specs.EndsBench.{EndsBench}
+use Rattle.bus_tool.specs.EndsBridge.{EndsBridge}
 use Rattle.bus_tool.specs.EndsJudge.{EndsJudge}
 use Rattle.bus_tool.specs.Objects.{AreSame, AfterRun, AfterWant}
 use Rattle.bus_tool.specs.Tables.{IsTablesRun, AreTablesRuns, FramesAreInTime}
@@ -282,4 +283,5 @@ module _ (left0 left1 held0 held1 : Option (List ℕ)) (source0 source1 sink0 si
   Ends (Some commands.Decode) = EndsListing (word_lines LAG) (word_listing LAG)
   Ends (Some commands.Messages) = EndsListing (message_lines LAG) (message_listing LAG)
   Ends (Some commands.Judge) = EndsJudge left0 left1 held0 held1 source0 source1 sink0 sink1 status bus told0 told1 said0 said1 spare0 spare1
+  Ends (Some commands.Bridge) = EndsBridge left0 left1 held0 held1 source0 source1 sink0 sink1 status bus told0 told1 said0 said1 spare0 spare1
   Ends (Some (commands.Bench number items)) = EndsBench left0 left1 held0 held1 source0 source1 sink0 sink1 status bus told0 told1 said0 said1 spare0 spare1 number items

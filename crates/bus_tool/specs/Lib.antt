@@ -5,6 +5,7 @@ pub mod Due
 pub mod EndsJudge
 pub mod Ends
 pub mod EndsBench
+pub mod EndsBridge
 pub mod Answers
 pub mod CaptureWriters
 pub mod Captured

@@ -2,7 +2,7 @@
 use Rattle.std.specs.Prelude.{ℕ, ◌^◌, ◌<◌, ◌≤◌, ◌==◌, List, [], ◌∷◌, codes, bytes_eq, Option, Some, None, if◌then◌else◌, ⊤}
 use Rattle.bus_decimal.specs.Decimal.{number_up_to}
 use Rattle.bus_tool.specs.declared.words.Command.{Command}
-use Rattle.bus_tool.specs.declared.words.Command.TheVariants.{Run, Capture, Survey, Load, Decode, Messages, Judge, Bench}
+use Rattle.bus_tool.specs.declared.words.Command.TheVariants.{Run, Capture, Survey, Load, Decode, Messages, Judge, Bridge, Bench}
 
 -- the command of one word
 abbrev pub command_named : List ℕ → Option Command
@@ -14,6 +14,7 @@ command_named word =
     else if bytes_eq word (codes "decode") then Some Decode
     else if bytes_eq word (codes "messages") then Some Messages
     else if bytes_eq word (codes "judge") then Some Judge
+    else if bytes_eq word (codes "bridge") then Some Bridge
     else None
 
 -- a benchmark wants a number of 31 bits, and at least one message

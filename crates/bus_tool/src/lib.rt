@@ -2,6 +2,7 @@
 #![tactic(auto)]
 
 mod bench;
+mod bridging;
 mod capture;
 mod capture_writer;
 mod ended;

@@ -10,11 +10,14 @@ use bus_formats::{Attempt, Outcome, RunLog};
 pub fn status_of(log: &RunLog) -> u8
     ensures { result ≡ texts.status_of log.now }
 {
-    if all_went_well(log.attempts.as_slice()) {
-        0
-    } else {
-        1
-    }
+    status_of_attempts(log.attempts.as_slice())
+}
+
+/// The status after a run with these attempts.
+pub fn status_of_attempts(attempts: &[Attempt]) -> u8
+    ensures { result ≡ texts.status_of_attempts attempts.now }
+{
+    if all_went_well(attempts) { 0 } else { 1 }
 }
 
 fn all_went_well(attempts: &[Attempt]) -> bool

@@ -4,6 +4,7 @@ ghost use Rattle.bus_tool.specs.Ends.{Ends, EndsRun};
 ghost use Rattle.bus_tool.specs.Meaning.{meaning};
 
 use crate::bench::bench;
+use crate::bridging::bridge_input;
 use crate::ended::Ended;
 use crate::input::{Stop, read_input};
 use crate::judging::judge_capture;
@@ -23,8 +24,8 @@ use std::alloc::Global;
 /// The words are the command line without the program's name. Of the 62 objects, places 0 to 30 serve as the recorders of the
 /// addresses 0 to 30, and places 31 to 61 as the tallies of these addresses.
 ///
-/// - 0: the input was read to its end and the whole text was written; of a run or a benchmark, which reads nothing, 1, where the last attempt of some item didn't
-///   go well, and of a survey or a load never.
+/// - 0: the input was read to its end and the whole text was written; of a run, a bridge or a benchmark, which reads nothing, 1, where the last attempt of some item
+///   didn't go well, and of a survey or a load never.
 /// - 2: the words have no meaning, and nothing was read.
 /// - 3: the input is refused; a plan was read whole, a capture to its first wrong byte, and the lines of the ticks before it were written.
 /// - 4: the source failed; a listing's lines so far were written, and nothing else.
@@ -74,6 +75,10 @@ pub fn bus_tool<S: Source, K: Sink>(
         },
         Some(Command::Judge) => Ended {
             status: judge_capture(source, sink),
+            bus: None,
+        },
+        Some(Command::Bridge) => Ended {
+            status: bridge_input(alloc, source, sink),
             bus: None,
         },
         Some(Command::Bench { number, items }) => bench(alloc, number, items, sink),

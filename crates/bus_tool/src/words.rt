@@ -21,6 +21,8 @@ pub enum Command {
     Messages,
     /// Read a capture, and write its breaches of the rules of timing.
     Judge,
+    /// Read two plans and the terminals of one device, run both, and write what was handed on and the attempts of the second.
+    Bridge,
     /// Read nothing, run the plan with so many messages, 1 to 4,096, that are drawn from a number, 0 to 2,147,483,647, on, and write one line.
     Bench { number: u32, items: u32 },
 }
@@ -61,6 +63,9 @@ fn command_named(word: &str) -> Option<Command>
     }
     if word == "judge" {
         return Some(Command::Judge);
+    }
+    if word == "bridge" {
+        return Some(Command::Bridge);
     }
     None
 }
