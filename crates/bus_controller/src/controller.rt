@@ -7,7 +7,7 @@ ghost use Rattle.bus_formats.specs.Plans.{StationData};
 ghost use Rattle.bus_model.specs.Starts.{has_items};
 ghost use Rattle.bus_model.specs.Course.{Take, course, drive_course};
 ghost use Rattle.bus_controller.specs.Stands.{told};
-ghost use Rattle.bus_controller.specs.Steps.{next_of_state, serves, taken_by};
+ghost use Rattle.bus_controller.specs.Steps.{next_of_state, going, serves, taken_by};
 ghost use Rattle.bus_controller.specs.AgendaOf.{IsAgendaOf};
 ghost use Rattle.bus_controller.specs.ControllerStands.{ControllerStands, ControllerKeeps};
 ghost use Rattle.bus_receiver.specs.Cuts.{CuttersHear};
@@ -92,6 +92,30 @@ impl Controller {
         self.step(moment)
     }
 
+    /// Hears the newest tick as `learn` does, where a receiver told this of it and nothing begins or ends in it. False where something does: then the tick
+    /// isn't heard.
+    #[inline(always)]
+    pub fn stay(&mut self, moment: &Moment) -> bool
+        ensures event { (station : StationData) (starts : Bool) (takes : List Take) (past : List Pair) → ControllerKeeps LAG station starts takes self.old past →
+            moment.now ≡ moment_of LAG moment.now.shown past → result ≡ true →
+            (course LAG station starts takes (moment.now.shown ∷ past)).ended ≡ (course LAG station starts takes past).ended }
+        ensures stands { (station : StationData) (starts : Bool) (takes : List Take) (past : List Pair) → ControllerKeeps LAG station starts takes self.old past →
+            moment.now ≡ moment_of LAG moment.now.shown past → result ≡ true → ControllerKeeps LAG station starts takes self.new (moment.now.shown ∷ past) }
+        ensures receiver { self.new.receiver ≡ self.old.receiver }
+        ensures same { result ≡ false → self.new ≡ self.old }
+    {
+        self.stays(moment)
+    }
+
+    #[inline(always)]
+    fn stays(&mut self, moment: &Moment) -> bool
+        ensures stays { result ≡ true → next_of_state LAG self.old.state moment.now ≡ going self.new.state }
+        ensures receiver { self.new.receiver ≡ self.old.receiver }
+        ensures same { result ≡ false → self.new ≡ self.old }
+    {
+        self.state.stay(moment)
+    }
+
     // Mostly nothing begins or ends in a tick: then the state isn't moved.
     #[inline(always)]
     fn step(&mut self, moment: &Moment) -> ControllerEvent
@@ -105,6 +129,7 @@ impl Controller {
         self.change(*moment)
     }
 
+    #[inline(never)]
     fn change(&mut self, moment: Moment) -> ControllerEvent
         ensures receiver { self.new.receiver ≡ self.old.receiver }
         ensures state { self.new.state ≡ (next_of_state LAG self.old.state moment).state }
