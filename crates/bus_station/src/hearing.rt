@@ -156,6 +156,7 @@ impl Station {
     }
 
     // Control is taken, with the first command in this tick, where `next` is the tick to come, before which both channels were quiet for that many.
+    #[inline(never)]
     fn take_over(&mut self, first: Tick, next: Tick, quiet: u64)
         requires { (station : StationData) × (starts : Bool) × (takes : List Take) × (past : List Pair)
             × ControllerKeeps LAG station starts takes self.old.controller past × ((course LAG station starts takes past).holds ≡ false)
@@ -178,8 +179,41 @@ impl Station {
         self.taking = Some(first);
     }
 
-    // A tick of a station that holds control. To its terminal the bus is quiet, which changes nothing.
+    // A tick of a station that holds control. To its terminal the bus is quiet, which changes nothing. Mostly its controller begins and ends nothing.
+    #[inline(always)]
     fn hold(&mut self, moment: &Moment) -> bool
+        requires { (plan : StationData) × (starts : Bool) × (loads : List TimedLoad) × (outside : List OutsideTake) × (past : List Pair)
+            × (before : Cutters) × (after : Cutters) × StationKeeps LAG plan starts loads outside self.old past
+            × (holds_control LAG plan starts loads outside past ≡ true)
+            × TerminalHears LAG self.old.terminal (hearing_after LAG plan starts loads outside past).ticks × IsNext LAG moment.now before after past
+            × (length past < 2 ^ 60) }
+        ensures tick { (plan : StationData) (starts : Bool) (loads : List TimedLoad) (outside : List OutsideTake) (past : List Pair) (before after : Cutters) →
+            StationKeeps LAG plan starts loads outside self.old past → holds_control LAG plan starts loads outside past ≡ true →
+            TerminalHears LAG self.old.terminal (hearing_after LAG plan starts loads outside past).ticks → IsNext LAG moment.now before after past →
+            AfterTick LAG plan starts loads outside self.new (noticed result self.new.event) moment.now.shown past }
+        ensures hears { (plan : StationData) (starts : Bool) (loads : List TimedLoad) (outside : List OutsideTake) (past : List Pair) (before after : Cutters) →
+            StationKeeps LAG plan starts loads outside self.old past → holds_control LAG plan starts loads outside past ≡ true →
+            TerminalHears LAG self.old.terminal (hearing_after LAG plan starts loads outside past).ticks → IsNext LAG moment.now before after past →
+            TerminalHears LAG self.new.terminal (hearing_after LAG plan starts loads outside (moment.now.shown ∷ past)).ticks }
+        ensures in_step { (plan : StationData) (starts : Bool) (loads : List TimedLoad) (outside : List OutsideTake) (past : List Pair) (before after : Cutters) →
+            StationKeeps LAG plan starts loads outside self.old past → holds_control LAG plan starts loads outside past ≡ true →
+            TerminalHears LAG self.old.terminal (hearing_after LAG plan starts loads outside past).ticks → IsNext LAG moment.now before after past →
+            InStep LAG plan starts loads outside self.new after (moment.now.shown ∷ past) }
+        ensures receiver { self.new.controller.receiver ≡ self.old.controller.receiver }
+        ensures some { result ≡ true → is_event self.new.event ≡ true }
+        ensures none { result ≡ false → self.new.event ≡ self.old.event }
+    {
+        if self.controller.stay(moment) {
+            let now = moment.tick();
+            self.taking = still_taking(self.taking, now);
+            return false;
+        }
+        self.change(moment)
+    }
+
+    // A tick in which its controller begins or ends something. It is a call of its own, since an event is large.
+    #[inline(never)]
+    fn change(&mut self, moment: &Moment) -> bool
         requires { (plan : StationData) × (starts : Bool) × (loads : List TimedLoad) × (outside : List OutsideTake) × (past : List Pair)
             × (before : Cutters) × (after : Cutters) × StationKeeps LAG plan starts loads outside self.old past
             × (holds_control LAG plan starts loads outside past ≡ true)
@@ -221,6 +255,7 @@ impl Station {
 
     // An attempt ended so in this tick. Where control was yielded in it, the terminal hears it. From then on it hears by what others hear for it, where
     // no burst runs that it hears from its middle only.
+    #[inline(never)]
     fn close(&mut self, moment: &Moment, outcome: Outcome)
         requires { (plan : TerminalData) × (loads : List TimedLoad) × (hearing : Hearing) × TerminalStands LAG plan loads self.old.terminal hearing
             × (length hearing.ticks ≡ moment.now.tick.0) × (moment.now.tick.0 < 2 ^ 60) }
@@ -250,6 +285,7 @@ impl Station {
 }
 
 // Whether a controller has items left.
+#[inline(always)]
 fn has_items(controller: &Controller) -> bool
     ensures { (station : StationData) (starts : Bool) (takes : List Take) (past : List Pair) → ControllerKeeps LAG station starts takes controller.now past →
         result ≡ entries.has_items (course LAG station starts takes past).left }
