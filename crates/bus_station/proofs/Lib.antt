@@ -19,3 +19,4 @@ pub mod Closed
 pub mod Own
 pub mod Waits
 pub mod Foreign
+pub mod Heeded

@@ -7,3 +7,4 @@ pub mod Hears
 pub mod Heard
 pub mod Listening
 pub mod Needs
+pub mod Amid

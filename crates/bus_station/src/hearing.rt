@@ -15,7 +15,9 @@ ghost use Rattle.bus_terminal.specs.Quiet.{quiet_moments};
 ghost use Rattle.bus_terminal.specs.Stands.{AreMade};
 ghost use Rattle.bus_terminal.specs.TerminalStands.{TerminalStands, TerminalKeeps, TerminalHears};
 ghost use Rattle.bus_controller.specs.ControllerStands.{ControllerKeeps};
+ghost use Rattle.bus_station.specs.Amid.{HeardUpTo, IsAmid};
 ghost use Rattle.bus_station.specs.Hears.{HeardBy};
+ghost use Rattle.bus_station.specs.declared.station.Station.{Station as StationValue};
 ghost use Rattle.bus_station.specs.Roles as roles;
 ghost use Rattle.bus_station.specs.StationStands.{StationKeeps, AfterTick};
 ghost use Rattle.bus_station.specs.Listening.{cutters_by, HearsBy, InStep, IsNext};
@@ -30,7 +32,7 @@ use bus_controller::{Controller, ControllerEvent};
 use bus_formats::{Attempt, Outcome, TAKING_OVER};
 use bus_line::LAG;
 use bus_receiver::{Cuts, Moment};
-use bus_terminal::TerminalEvent;
+use bus_terminal::{BothHeard, Step, TerminalEvent};
 
 impl Station {
     // Its terminal hears by its own cutters, or by what the moment has of those of the bus.
@@ -66,7 +68,7 @@ impl Station {
         }
     }
 
-    // A tick of a station that serves. Its terminal may accept control where items are left.
+    // A tick of a station that serves. Mostly nothing is handled in it.
     #[inline(always)]
     fn serve(&mut self, moment: &Moment, own: bool) -> bool
         requires { (plan : StationData) × (starts : Bool) × (loads : List TimedLoad) × (outside : List OutsideTake) × (past : List Pair)
@@ -89,6 +91,34 @@ impl Station {
         ensures none { result ≡ false → self.new.event ≡ self.old.event }
     {
         match self.listen(moment, own) {
+            Step::Stays => false,
+            Step::Changes(both) => self.settle(moment, both),
+        }
+    }
+
+    // Ends a tick that the terminal's ears heard, and in which something may be handled. The terminal may accept control where items are left. It is a
+    // call of its own, since an event is large.
+    #[inline(never)]
+    fn settle(&mut self, moment: &Moment, both: BothHeard) -> bool
+        requires { (plan : StationData) × (starts : Bool) × (loads : List TimedLoad) × (outside : List OutsideTake) × (past : List Pair) × (own : Bool)
+            × (was : StationValue) × (before : Cutters) × (after : Cutters)
+            × IsAmid LAG plan starts loads outside own was self.old both after moment.now.shown past × IsNext LAG moment.now before after past
+            × (length past < 2 ^ 60) }
+        ensures tick { (plan : StationData) (starts : Bool) (loads : List TimedLoad) (outside : List OutsideTake) (past : List Pair) (own : Bool)
+            (was : StationValue) (before after : Cutters) → IsAmid LAG plan starts loads outside own was self.old both after moment.now.shown past →
+            IsNext LAG moment.now before after past →
+            AfterTick LAG plan starts loads outside self.new (noticed result self.new.event) moment.now.shown past }
+        ensures hears { (plan : StationData) (starts : Bool) (loads : List TimedLoad) (outside : List OutsideTake) (past : List Pair) (own : Bool)
+            (was : StationValue) (before after : Cutters) → IsAmid LAG plan starts loads outside own was self.old both after moment.now.shown past →
+            IsNext LAG moment.now before after past →
+            HearsBy LAG (holds_control LAG plan starts loads outside (moment.now.shown ∷ past) || own) self.new after
+            (hearing_after LAG plan starts loads outside (moment.now.shown ∷ past)).ticks }
+        ensures receiver { self.new.controller.receiver ≡ self.old.controller.receiver }
+        ensures alone { self.new.alone ≡ self.old.alone }
+        ensures some { result ≡ true → is_event self.new.event ≡ true }
+        ensures none { result ≡ false → self.new.event ≡ self.old.event }
+    {
+        match self.heed(moment, both) {
             TerminalEvent::Nothing => false,
             TerminalEvent::Took(delivery) => {
                 self.event = StationEvent::Took(delivery);
@@ -104,9 +134,34 @@ impl Station {
         }
     }
 
-    // The terminal of a station that serves hears a tick. Its controller needs to hear nothing.
+    // The terminal does what is handled in the tick.
     #[inline(always)]
-    fn listen(&mut self, moment: &Moment, own: bool) -> TerminalEvent
+    fn heed(&mut self, moment: &Moment, both: BothHeard) -> TerminalEvent
+        requires { (plan : StationData) × (starts : Bool) × (loads : List TimedLoad) × (outside : List OutsideTake) × (past : List Pair) × (own : Bool)
+            × (was : StationValue) × (before : Cutters) × (after : Cutters)
+            × IsAmid LAG plan starts loads outside own was self.old both after moment.now.shown past × IsNext LAG moment.now before after past
+            × (length past < 2 ^ 60) }
+        ensures event { self.new.event ≡ self.old.event }
+        ensures address { self.new.address ≡ self.old.address }
+        ensures taking { self.new.taking ≡ self.old.taking }
+        ensures alone { self.new.alone ≡ self.old.alone }
+        ensures controller { self.new.controller ≡ self.old.controller }
+        ensures cutters { self.new.terminal.cutters ≡ self.old.terminal.cutters }
+        ensures terminal { (plan : StationData) (starts : Bool) (loads : List TimedLoad) (outside : List OutsideTake) (past : List Pair) (own : Bool)
+            (was : StationValue) (before after : Cutters) → IsAmid LAG plan starts loads outside own was self.old both after moment.now.shown past →
+            IsNext LAG moment.now before after past →
+            HeardBy LAG plan.terminal loads self.new.terminal result (length past) (hearing_after LAG plan starts loads outside past)
+            (control.moment_of moment.now.shown (course_after LAG plan starts loads outside past)) }
+    {
+        let may_accept = has_items(&self.controller);
+        let now = moment.tick();
+        let shown = moment.shown();
+        self.terminal.settle(now, shown, both, may_accept)
+    }
+
+    // The ears of a station that serves hear a tick, and where nothing is handled in it, that is all of it. Its controller needs to hear nothing.
+    #[inline(always)]
+    fn listen(&mut self, moment: &Moment, own: bool) -> Step
         requires { (plan : StationData) × (starts : Bool) × (loads : List TimedLoad) × (outside : List OutsideTake) × (past : List Pair)
             × (before : Cutters) × (after : Cutters) × StationKeeps LAG plan starts loads outside self.old past
             × (holds_control LAG plan starts loads outside past ≡ false)
@@ -120,7 +175,7 @@ impl Station {
         ensures terminal { (plan : StationData) (starts : Bool) (loads : List TimedLoad) (outside : List OutsideTake) (past : List Pair) (before after : Cutters) →
             StationKeeps LAG plan starts loads outside self.old past → holds_control LAG plan starts loads outside past ≡ false →
             HearsBy LAG own self.old before (hearing_after LAG plan starts loads outside past).ticks → IsNext LAG moment.now before after past →
-            HeardBy LAG plan.terminal loads self.new.terminal result (length past) (hearing_after LAG plan starts loads outside past)
+            HeardUpTo LAG plan.terminal loads self.new.terminal result (hearing_after LAG plan starts loads outside past)
             (control.moment_of moment.now.shown (course_after LAG plan starts loads outside past)) }
         ensures hears { (plan : StationData) (starts : Bool) (loads : List TimedLoad) (outside : List OutsideTake) (past : List Pair) (before after : Cutters) →
             StationKeeps LAG plan starts loads outside self.old past → holds_control LAG plan starts loads outside past ≡ false →
@@ -128,11 +183,10 @@ impl Station {
             HearsBy LAG own self.new after (control.moment_of moment.now.shown (course_after LAG plan starts loads outside past) ∷
             (hearing_after LAG plan starts loads outside past).ticks) }
     {
-        let may_accept = has_items(&self.controller);
         let cuts = self.cuts(moment, own);
         let now = moment.tick();
         let shown = moment.shown();
-        self.terminal.learn(now, shown, &cuts, may_accept)
+        self.terminal.listen(now, shown, &cuts)
     }
 
     // What became known for the terminal.

@@ -17,6 +17,7 @@ mod tests;
 pub mod waiting;
 
 pub use answering::Answering;
+pub use common::BothHeard;
 pub use invariants::{
     a_promise_waits_thirty_dead_ticks, an_answer_runs_from_its_due_tick, an_owed_answer_is_not_due,
     listening_owes_nothing,
@@ -24,5 +25,5 @@ pub use invariants::{
 pub use listening::Listening;
 pub use owing::Owing;
 pub use promised::Promised;
-pub use state::{TerminalEvent, TerminalNext, TerminalState};
+pub use state::{Step, TerminalEvent, TerminalNext, TerminalState};
 pub use terminal::Terminal;

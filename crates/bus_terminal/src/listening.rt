@@ -81,6 +81,7 @@ impl Listening {
     }
 
     /// The state after the tick `now`, which its ears have heard. `may_accept` says that the terminal's station has items left.
+    #[inline(never)]
     pub(crate) fn next(self, now: Tick, both: BothHeard, may_accept: bool) -> TerminalNext
         requires { (terminal : TerminalData) × (loads : List TimedLoad) × (before : ListeningData) × (past : List Moment) × (moment : Moment) × (s : Standing)
             × ListeningHeard LAG terminal loads before self both past moment s × (length past ≡ now.0) × (now.0 < 2 ^ 60) }

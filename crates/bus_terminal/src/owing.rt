@@ -71,6 +71,7 @@ impl Owing {
     }
 
     /// The state after the tick `now`, which its ears have heard. `may_accept` says that the terminal's station has items left.
+    #[inline(never)]
     pub(crate) fn next(
         self,
         now: Tick,

@@ -49,7 +49,7 @@ pub struct TerminalNext {
 }
 
 /// Whether a state stays after a tick that its ears heard, or may change by what they told of it.
-pub(crate) enum Step {
+pub enum Step {
     Stays,
     Changes(BothHeard),
 }

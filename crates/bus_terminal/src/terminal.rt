@@ -1,5 +1,5 @@
 //! The terminal that the layer above uses.
-ghost use Rattle.std.specs.Prelude.{◌≡◌, ◌<◌, ◌^◌, ◌≤◌, ◌∷◌, ◌++◌, [], ℕ, List, length, false};
+ghost use Rattle.std.specs.Prelude.{◌≡◌, ◌<◌, ◌^◌, ◌≤◌, ◌∷◌, ◌++◌, [], ℕ, Bool, List, length, false};
 ghost use Rattle.bus_line.specs.declared.cutter.TheConstants.{LAG};
 ghost use Rattle.bus_formats.specs.Plans.{TerminalData};
 ghost use Rattle.bus_model.specs.Memory.{TimedLoad, first_memory};
@@ -13,7 +13,7 @@ ghost use Rattle.bus_receiver.specs.Cuts.{CuttersHear};
 ghost use Rattle.bus_terminal.specs.Quiet.{quiet_moments};
 ghost use Rattle.bus_terminal.specs.Stands.{AreMade, RestsFrom};
 ghost use Rattle.bus_terminal.specs.Shown.{common_of};
-ghost use Rattle.bus_terminal.specs.Hearing.{StateHeard};
+ghost use Rattle.bus_terminal.specs.Hearing.{StateHeard, AfterStep};
 ghost use Rattle.bus_terminal.specs.Needs as needs;
 ghost use Rattle.bus_model.specs.Memory as kept;
 
@@ -101,6 +101,48 @@ impl Terminal {
         ensures cutters { self.new.cutters ≡ self.old.cutters }
     {
         self.step(now, heard, cuts, may_accept)
+    }
+
+    /// Hears the tick `now` as `learn` does, where nothing is handled in it and its state isn't left. Else its ears alone have heard it, and `settle` ends
+    /// the tick by what they told.
+    #[inline(always)]
+    pub fn listen(&mut self, now: Tick, heard: Pair, cuts: &Cuts) -> Step
+        requires { (plan : TerminalData) × (loads : List TimedLoad) × (hearing : Hearing) × TerminalKeeps LAG plan loads self.old hearing
+            × AreCuts LAG cuts.now heard hearing.ticks × (length hearing.ticks ≡ now.0) × (now.0 < 2 ^ 60) }
+        ensures listened { (plan : TerminalData) (loads : List TimedLoad) (hearing : Hearing) (may : Bool) → TerminalKeeps LAG plan loads self.old hearing →
+            AreCuts LAG cuts.now heard hearing.ticks → length hearing.ticks ≡ now.0 →
+            AfterStep LAG plan loads self.new.state result hearing.ticks (record { shown = heard; has_items = may })
+            (standing LAG plan loads hearing.memory hearing.ticks)
+            (accepted_on LAG plan loads (record { shown = heard; has_items = may }) hearing.ticks (standing LAG plan loads hearing.memory hearing.ticks)) }
+        ensures cutters { self.new.cutters ≡ self.old.cutters }
+    {
+        self.state.listen(now, heard, cuts)
+    }
+
+    /// Ends a tick that its ears heard, in which something is handled or its state is left, and tells of it what `hear` tells.
+    #[inline(never)]
+    pub fn settle(
+        &mut self,
+        now: Tick,
+        heard: Pair,
+        both: BothHeard,
+        may_accept: bool,
+    ) -> TerminalEvent
+        requires { (terminal : TerminalData) × (loads : List TimedLoad) × (past : List Moment) × (moment : Moment) × (s : Standing)
+            × StateHeard LAG terminal loads self.old.state both past moment s × (length past ≡ now.0) × (now.0 < 2 ^ 60) }
+        ensures next { (terminal : TerminalData) (loads : List TimedLoad) (past : List Moment) (moment : Moment) (s : Standing) →
+            StateHeard LAG terminal loads self.old.state both past moment s → length past ≡ now.0 → moment.shown ≡ heard → moment.has_items ≡ may_accept →
+            NextStands LAG terminal loads (record { state = self.new.state; event = result }) past moment s (accepted_on LAG terminal loads moment past s) }
+        ensures cutters { self.new.cutters ≡ self.old.cutters }
+    {
+        core::mem::replace_with(
+            &mut self.state,
+            (now, heard, both, may_accept),
+            |state: TerminalState, tick: (Tick, Pair, BothHeard, bool)| {
+                let next = state.next(tick.0, tick.1, tick.2, tick.3);
+                (next.state, next.event)
+            },
+        )
     }
 
     /// What it sends in the next tick.
@@ -200,27 +242,8 @@ impl Terminal {
     {
         match self.state.listen(now, heard, cuts) {
             Step::Stays => TerminalEvent::Nothing,
-            Step::Changes(both) => self.change(now, heard, both, may_accept),
+            Step::Changes(both) => self.settle(now, heard, both, may_accept),
         }
-    }
-
-    // The ears have heard the tick, in which something is handled or the state is left.
-    fn change(&mut self, now: Tick, heard: Pair, both: BothHeard, may_accept: bool) -> TerminalEvent
-        requires { (terminal : TerminalData) × (loads : List TimedLoad) × (past : List Moment) × (moment : Moment) × (s : Standing)
-            × StateHeard LAG terminal loads self.old.state both past moment s × (length past ≡ now.0) × (now.0 < 2 ^ 60) }
-        ensures next { (terminal : TerminalData) (loads : List TimedLoad) (past : List Moment) (moment : Moment) (s : Standing) →
-            StateHeard LAG terminal loads self.old.state both past moment s → length past ≡ now.0 → moment.shown ≡ heard → moment.has_items ≡ may_accept →
-            NextStands LAG terminal loads (record { state = self.new.state; event = result }) past moment s (accepted_on LAG terminal loads moment past s) }
-        ensures cutters { self.new.cutters ≡ self.old.cutters }
-    {
-        core::mem::replace_with(
-            &mut self.state,
-            (now, heard, both, may_accept),
-            |state: TerminalState, tick: (Tick, Pair, BothHeard, bool)| {
-                let next = state.next(tick.0, tick.1, tick.2, tick.3);
-                (next.state, next.event)
-            },
-        )
     }
 }
 

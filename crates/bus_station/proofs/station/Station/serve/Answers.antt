@@ -19,6 +19,9 @@ use Rattle.bus_station.specs.StationStands.{StationKeeps}
 use Rattle.bus_station.proofs.Courses.{serves-more}
 use Rattle.bus_station.proofs.Listening.{off-hears, on-hears}
 use Rattle.bus_station.proofs.SoFar.{keeps}
+use Rattle.bus_station.proofs.Heeded.{heard-whole}
+use Rattle.bus_station.specs.Amid.{HeardUpTo, IsAmid}
+use Rattle.bus_terminal.specs.declared.state.Step.{Step}
 use Rattle.bus_station.proofs.Ticks.{delivery_heard, none-accepted, some-end, accepted-end, made-more}
 use Rattle.bus_station.proofs.Serving.{sofar, before, served, served-next, took-over, took-next, accepted-left}
 use Rattle.bus_station.proofs.station.Station.serve.Goals as goal
@@ -26,120 +29,87 @@ use Rattle.bus_station.proofs.station.Station.serve.Goals as goal
 pub listen-requires : goal.listen-requires
 listen-requires c = c.requires
 
-pub first_command-requires : goal.first_command-requires
-first_command-requires c =
-    let (plan, starts, loads, outside, past, old, new, st, off, hears, next, small) = c.requires in
-    let at = ap (λ (t : Tick). t.0) (c.tick-now.ensures ∙ ap (λ (m : Moment). m.tick) next.is) in
-    omega (arith, small, at)
-
-pub take_over-requires : goal.take_over-requires
-unfolding StationKeeps
-take_over-requires c =
-    let (plan, starts, loads, outside, past, old, new, st, off, hears, next, small) = c.requires in
-    let x = c.args.moment.now.shown in
-    let at = ap (λ (t : Tick). t.0) (c.tick-now.ensures ∙ ap (λ (m : Moment). m.tick) next.is) in
-    let heard = c.listen.ensures.terminal plan starts loads outside past old new st off hears next in
-    let (end, accepted) = some-end _ (subst (λ (e : TerminalEvent). AcceptedIs e (accepted_now LAG plan.terminal loads
-    (hear_more (sofar LAG plan starts loads outside past).hearing
-    (moment_of x (before LAG plan starts loads outside past))))) c.in-Accepted.is heard.accepted) in
-    let same = serves-more LAG plan starts (sofar LAG plan starts loads outside past).takes x past
-    (keeps LAG plan starts loads outside past).later off in (
+pub settle-requires : goal.settle-requires
+settle-requires c =
+    let (plan, starts, loads, outside, past, old, new, st, off, hears, next, small) = c.requires in (
       plan,
       starts,
-      (sofar LAG plan starts loads outside past).takes,
-      x ∷ past,
-      subst (λ (value : Controller). ControllerKeeps LAG plan starts (sofar LAG plan starts loads outside past).takes value (x ∷ past))
-          (sym c.listen.ensures.controller)
-          (serving-keeps plan starts (sofar LAG plan starts loads outside past).takes c.args.self.now.controller x past st.controller off),
-      ap (λ (d : Course). d.holds) same ∙ off,
-      λ none. accepted-left LAG plan starts loads outside x past end off accepted (sym (ap (λ (d : Course). d.left) same) ∙ none),
-      omega (arith, at, c.first_command.ensures),
+      loads,
+      outside,
+      past,
+      c.args.own,
+      c.args.self.now,
+      old,
+      new,
+      record {
+        kept = st;
+        off = off;
+        heard = subst (λ (step : Step). HeardUpTo LAG plan.terminal loads c.listen.new.self.terminal step (sofar LAG plan starts loads outside past).hearing
+            (moment_of c.args.moment.now.shown (before LAG plan starts loads outside past))) c.in-Changes.is
+            (c.listen.ensures.terminal plan starts loads outside past old new st off hears next);
+        hears = c.listen.ensures.hears plan starts loads outside past old new st off hears next;
+        address = c.listen.ensures.address;
+        taking = c.listen.ensures.taking;
+        controller = c.listen.ensures.controller;
+      },
+      next,
+      small,
     )
 
-pub returns-in-Nothing-clause-tick : goal.returns-in-Nothing-clause-tick
+pub returns-in-Stays-clause-tick : goal.returns-in-Stays-clause-tick
 unfolding StationKeeps
-returns-in-Nothing-clause-tick c = λ plan starts loads outside past old new st off hears next.
+returns-in-Stays-clause-tick c = λ plan starts loads outside past old new st off hears next.
     let x = c.args.moment.now.shown in
-    let heard = c.listen.ensures.terminal plan starts loads outside past old new st off hears next in
-    served LAG plan starts loads outside c.args.self.now _ c.listen.result _ x past st off
-    (none-accepted c.listen.result _ (λ e. (let no : heards.Nothing ≡ heards.Accepted = sym c.in-Nothing.is ∙ e in cc)) heard.accepted)
+    let heard = heard-whole LAG plan.terminal loads c.listen.new.self.terminal heards.Nothing (length past) (sofar LAG plan starts loads outside past).hearing
+    (moment_of x (before LAG plan starts loads outside past)) (keeps LAG plan starts loads outside past).long
+    (subst (λ (step : Step). HeardUpTo LAG plan.terminal loads c.listen.new.self.terminal step (sofar LAG plan starts loads outside past).hearing
+    (moment_of x (before LAG plan starts loads outside past))) c.in-Stays.is
+    (c.listen.ensures.terminal plan starts loads outside past old new st off hears next)) in
+    served LAG plan starts loads outside c.args.self.now _ heards.Nothing _ x past st off
+    (none-accepted heards.Nothing _ (λ e. (let no : heards.Nothing ≡ heards.Accepted = e in cc)) heard.accepted)
     (subst (λ (value : Controller). ControllerKeeps LAG plan starts (sofar LAG plan starts loads outside past).takes value (x ∷ past))
     (sym c.listen.ensures.controller)
     (serving-keeps plan starts (sofar LAG plan starts loads outside past).takes c.args.self.now.controller x past st.controller off))
-    heard c.listen.ensures.address c.listen.ensures.taking refl (sym (ap delivery_heard c.in-Nothing.is))
+    heard c.listen.ensures.address c.listen.ensures.taking refl refl
 
-pub returns-in-Took-clause-tick : goal.returns-in-Took-clause-tick
+pub returns-in-Stays-clause-hears : goal.returns-in-Stays-clause-hears
 unfolding StationKeeps
-returns-in-Took-clause-tick c = λ plan starts loads outside past old new st off hears next.
+returns-in-Stays-clause-hears c = λ plan starts loads outside past old new st off hears next.
     let x = c.args.moment.now.shown in
-    let heard = c.listen.ensures.terminal plan starts loads outside past old new st off hears next in
-    served LAG plan starts loads outside c.args.self.now _ c.listen.result _ x past st off
-    (none-accepted c.listen.result _ (λ e. (let no : heards.Took c.in-Took.delivery ≡ heards.Accepted = sym c.in-Took.is ∙ e in cc)) heard.accepted)
-    (subst (λ (value : Controller). ControllerKeeps LAG plan starts (sofar LAG plan starts loads outside past).takes value (x ∷ past))
-    (sym c.listen.ensures.controller)
-    (serving-keeps plan starts (sofar LAG plan starts loads outside past).takes c.args.self.now.controller x past st.controller off))
-    heard c.listen.ensures.address c.listen.ensures.taking refl (sym (ap delivery_heard c.in-Took.is))
-
-pub returns-in-Accepted-clause-tick : goal.returns-in-Accepted-clause-tick
-unfolding StationKeeps TerminalStands
-returns-in-Accepted-clause-tick c = λ plan starts loads outside past old new st off hears next.
-    let x = c.args.moment.now.shown in
-    let s = sofar LAG plan starts loads outside past in
-    let kept = keeps LAG plan starts loads outside past in
-    let at = ap (λ (t : Tick). t.0) (c.tick-now.ensures ∙ ap (λ (m : Moment). m.tick) next.is) in
-    let next_at = ap (λ (t : Tick). t.0) (c.next-next.ensures ∙ ap (λ (m : Moment). m.next) next.is) in
-    let heard = c.listen.ensures.terminal plan starts loads outside past old new st off hears next in
-    let (end, accepted) = some-end _ (subst (λ (e : TerminalEvent). AcceptedIs e (accepted_now LAG plan.terminal loads
-    (hear_more s.hearing (moment_of x (before LAG plan starts loads outside past))))) c.in-Accepted.is heard.accepted) in
-    let same = serves-more LAG plan starts s.takes x past kept.later off in
-    let known = accepted-end LAG plan.terminal loads (moment_of x (before LAG plan starts loads outside past)) s.hearing end accepted in
-    took-over LAG plan starts loads outside c.args.self.now c.take_over.new.self c.listen.result _ x past _ end c.first_command.result.0 st off
-    accepted
-    (omega (arith, known, kept.long, at, c.first_command.ensures)) (omega (arith, at, c.first_command.ensures))
-    (c.take_over.ensures.controller plan starts s.takes (x ∷ past)
-    (subst (λ (value : Controller). ControllerKeeps LAG plan starts s.takes value (x ∷ past)) (sym c.listen.ensures.controller)
-    (serving-keeps plan starts s.takes c.args.self.now.controller x past st.controller off))
-    (ap (λ (d : Course). d.holds) same ∙ off) (omega (arith, at, c.first_command.ensures)) next_at
-    (c.quiet-quiet.ensures ∙ ap (λ (m : Moment). m.quiet) next.is))
-    heard
-    (c.take_over.ensures.terminal plan.terminal loads _ (suc (length past)) heard.stands (made-more plan.terminal.address (length past) loads st.made)).0
-    (c.take_over.ensures.address ∙ c.listen.ensures.address) c.take_over.ensures.taking refl (sym (ap delivery_heard c.in-Accepted.is))
-
-pub returns-in-Nothing-clause-hears : goal.returns-in-Nothing-clause-hears
-unfolding StationKeeps
-returns-in-Nothing-clause-hears c = λ plan starts loads outside past old new st off hears next.
-    let x = c.args.moment.now.shown in
-    let heard = c.listen.ensures.terminal plan starts loads outside past old new st off hears next in
-    let now = served-next LAG plan starts loads outside x past st.taken off
-    (none-accepted c.listen.result _ (λ e. (let no : heards.Nothing ≡ heards.Accepted = sym c.in-Nothing.is ∙ e in cc)) heard.accepted) in
+    let heard = heard-whole LAG plan.terminal loads c.listen.new.self.terminal heards.Nothing (length past) (sofar LAG plan starts loads outside past).hearing
+    (moment_of x (before LAG plan starts loads outside past)) (keeps LAG plan starts loads outside past).long
+    (subst (λ (step : Step). HeardUpTo LAG plan.terminal loads c.listen.new.self.terminal step (sofar LAG plan starts loads outside past).hearing
+    (moment_of x (before LAG plan starts loads outside past))) c.in-Stays.is
+    (c.listen.ensures.terminal plan starts loads outside past old new st off hears next)) in
+    let now = served-next LAG plan starts loads outside x past st.taken off (none-accepted heards.Nothing _ (λ e. (let no : heards.Nothing ≡ heards.Accepted = e in cc)) heard.accepted) in
     off-hears LAG _ c.args.own c.listen.new.self new _ now.1
     (subst (λ (h : Hearing). HearsBy LAG c.args.own c.listen.new.self new h.ticks) (sym now.0)
     (c.listen.ensures.hears plan starts loads outside past old new st off hears next))
 
-pub returns-in-Took-clause-hears : goal.returns-in-Took-clause-hears
-unfolding StationKeeps
-returns-in-Took-clause-hears c = λ plan starts loads outside past old new st off hears next.
-    let x = c.args.moment.now.shown in
-    let heard = c.listen.ensures.terminal plan starts loads outside past old new st off hears next in
-    let now = served-next LAG plan starts loads outside x past st.taken off
-    (none-accepted c.listen.result _ (λ e. (let no : heards.Took c.in-Took.delivery ≡ heards.Accepted = sym c.in-Took.is ∙ e in cc)) heard.accepted) in
-    off-hears LAG _ c.args.own c.listen.new.self new _ now.1
-    (subst (λ (h : Hearing). HearsBy LAG c.args.own c.listen.new.self new h.ticks) (sym now.0)
-    (c.listen.ensures.hears plan starts loads outside past old new st off hears next))
+pub returns-in-Changes-clause-tick : goal.returns-in-Changes-clause-tick
+returns-in-Changes-clause-tick c = λ plan starts loads outside past old new st off hears next.
+    c.settle.ensures.tick plan starts loads outside past c.args.own c.args.self.now old new record {
+      kept = st;
+      off = off;
+      heard = subst (λ (step : Step). HeardUpTo LAG plan.terminal loads c.listen.new.self.terminal step (sofar LAG plan starts loads outside past).hearing
+          (moment_of c.args.moment.now.shown (before LAG plan starts loads outside past))) c.in-Changes.is
+          (c.listen.ensures.terminal plan starts loads outside past old new st off hears next);
+      hears = c.listen.ensures.hears plan starts loads outside past old new st off hears next;
+      address = c.listen.ensures.address;
+      taking = c.listen.ensures.taking;
+      controller = c.listen.ensures.controller;
+    } next
 
-pub returns-in-Accepted-clause-hears : goal.returns-in-Accepted-clause-hears
-unfolding StationKeeps TerminalStands
-returns-in-Accepted-clause-hears c = λ plan starts loads outside past old new st off hears next.
-    let x = c.args.moment.now.shown in
-    let s = sofar LAG plan starts loads outside past in
-    let kept = keeps LAG plan starts loads outside past in
-    let at = ap (λ (t : Tick). t.0) (c.tick-now.ensures ∙ ap (λ (m : Moment). m.tick) next.is) in
-    let heard = c.listen.ensures.terminal plan starts loads outside past old new st off hears next in
-    let (end, accepted) = some-end _ (subst (λ (e : TerminalEvent). AcceptedIs e (accepted_now LAG plan.terminal loads
-    (hear_more s.hearing (moment_of x (before LAG plan starts loads outside past))))) c.in-Accepted.is heard.accepted) in
-    let known = accepted-end LAG plan.terminal loads (moment_of x (before LAG plan starts loads outside past)) s.hearing end accepted in
-    let now = took-next LAG plan starts loads outside x past end c.first_command.result.0 st.taken off accepted
-    (omega (arith, known, kept.long, at, c.first_command.ensures)) in
-    on-hears LAG _ c.args.own c.take_over.new.self new _ now.1
-    (subst (λ (ticks : List hearing.Moment). TerminalHears LAG c.take_over.new.self.terminal ticks) (sym now.0)
-    (c.take_over.ensures.terminal plan.terminal loads _ (suc (length past)) heard.stands (made-more plan.terminal.address (length past) loads st.made)).1)
+pub returns-in-Changes-clause-hears : goal.returns-in-Changes-clause-hears
+returns-in-Changes-clause-hears c = λ plan starts loads outside past old new st off hears next.
+    c.settle.ensures.hears plan starts loads outside past c.args.own c.args.self.now old new record {
+      kept = st;
+      off = off;
+      heard = subst (λ (step : Step). HeardUpTo LAG plan.terminal loads c.listen.new.self.terminal step (sofar LAG plan starts loads outside past).hearing
+          (moment_of c.args.moment.now.shown (before LAG plan starts loads outside past))) c.in-Changes.is
+          (c.listen.ensures.terminal plan starts loads outside past old new st off hears next);
+      hears = c.listen.ensures.hears plan starts loads outside past old new st off hears next;
+      address = c.listen.ensures.address;
+      taking = c.listen.ensures.taking;
+      controller = c.listen.ensures.controller;
+    } next
