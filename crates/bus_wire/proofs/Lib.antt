@@ -3,7 +3,7 @@ pub mod NewestLaws
 pub mod LastLaws
 pub mod FoundLaws
 pub mod TransmitterLaws
-mod Unstruck
+pub mod Unstruck
 pub mod ShownLaws
 pub mod SideLaws
 pub mod ExtraLaws
@@ -12,3 +12,4 @@ pub mod IdleLaws
 pub mod StationLaws
 pub mod WireLaws
 pub mod PlaceLaws
+pub mod PassLaws

@@ -36,7 +36,7 @@ rising-within from end (place ∷ places) rising = (let past = rising-within (su
 pub first-within : (from end place : ℕ) (places : List ℕ) → AreRising from end (place ∷ places) → place < end
 first-within from end place places rising = (let past = rising-within (suc place) end places rising.1 in omega (arith, past))
 
-neither : (a b : Bool) → a ≡ false → b ≡ false → (a || b) ≡ false
+pub neither : (a b : Bool) → a ≡ false → b ≡ false → (a || b) ≡ false
 neither a b none other = rw (none, other) refl
 
 -- one before all of them isn't among them

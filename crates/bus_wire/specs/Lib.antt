@@ -4,3 +4,4 @@ pub mod Stands
 pub mod Sides
 pub mod WireStands
 pub mod Places
+pub mod Passing

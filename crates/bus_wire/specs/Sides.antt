@@ -1,5 +1,5 @@
 -- What one channel keeps of what was driven.
-use Rattle.std.specs.Prelude.{◌≡◌, ℕ, ◌+◌, ◌≤◌, ◌==◌, if◌then◌else◌, List, length, find, slice_get, slice_set, get_or, Option, Some, None, IsSome}
+use Rattle.std.specs.Prelude.{◌≡◌, ℕ, ◌+◌, ◌≤◌, ◌==◌, Bool, true, false, if◌then◌else◌, List, length, find, slice_get, slice_set, get_or, Option, Some, None, IsSome}
 use Rattle.bus_base.specs.declared.samples.Channel.{Channel}
 use Rattle.bus_base.specs.declared.samples.Sample.{Sample}
 use Rattle.bus_base.specs.declared.samples.Sample.TheVariants.{Quiet}
@@ -7,7 +7,8 @@ use Rattle.bus_base.specs.declared.samples.Drive.{Drive}
 use Rattle.bus_formats.specs.declared.fault.Fault.{Fault}
 use Rattle.bus_model.specs.Transmissions.{is_of, transmissions}
 use Rattle.bus_wire.specs.Newest.{newest, by_any}
-use Rattle.bus_wire.specs.Steps.{goes_on, extra_with}
+use Rattle.bus_wire.specs.Steps as steps
+use Rattle.bus_wire.specs.Steps.{goes_on, driven_by, may_add, extra_with}
 use Rattle.bus_wire.specs.Stands.{AreStrikes, Unsent, Follows, Keeps}
 use Rattle.bus_wire.specs.declared.transmitter.Driven.{Driven}
 use Rattle.bus_wire.specs.declared.transmitter.Transmitter.{Transmitter}
@@ -33,6 +34,18 @@ pub record SideFollows (faults : List Fault) (station commands : ℕ) (driven : 
   pub here : slice_get old.transmitters station ≡ Some t
   pub follows : Follows faults commands driven (goes_on faults driven.tick t) t next after
   pub is : new ≡ record { transmitters = slice_set old.transmitters station next; driven = Some driven.tick; extra = extra_with old.extra next }
+
+-- a station drives the channel and goes on with a transmission that no fault strikes, while no extra may add to the channel
+pub record SidePassed (station tick : ℕ) (last : Bool) (old new : Side) : Type 0 where
+  pub t : Transmitter
+  pub here : slice_get old.transmitters station ≡ Some t
+  pub passes : steps.passes tick t ≡ true
+  pub ended : may_add tick old.extra ≡ false
+  pub is : new ≡ record { transmitters = slice_set old.transmitters station (driven_by tick last t); driven = Some tick; extra = old.extra }
+
+abbrev pub SidePasses : ℕ → ℕ → Bool → Side → Side → Bool → Type 0
+SidePasses station tick last old new true = SidePassed station tick last old new
+SidePasses station tick last old new false = new ≡ old
 
 -- a tick is known that is this one or a later one
 abbrev pub IsSince : Option ℕ → ℕ → Type 0

@@ -38,6 +38,10 @@ abbrev pub goes_on : List Fault → ℕ → Transmitter → Bool
 goes_on faults tick t =
     is_next t.drove tick && not (list_any (cut_over (tick - t.first)) (hits_on faults t.strikes.attempt t.strikes.part))
 
+-- .. and no fault is in its range
+abbrev pub passes : ℕ → Transmitter → Bool
+passes tick t = is_next t.drove tick && nat_le t.strikes.until t.strikes.from
+
 abbrev pub driven_by : ℕ → Bool → Transmitter → Transmitter
 driven_by tick last t = record t { drove = Some tick; last = last_or_now last tick t.last }
 

@@ -6,7 +6,7 @@ ghost use Rattle.bus_model.specs.Wire.{samples_on};
 ghost use Rattle.bus_wire.specs.Newest.{newest, by_any, since};
 ghost use Rattle.bus_wire.specs.Places.{AreRising, AreSilentBeside};
 ghost use Rattle.bus_wire.specs.Steps.{may_add};
-ghost use Rattle.bus_wire.specs.Sides.{SideFits, SideFollows, SideStands, IsUnsent, Shows, with_shown};
+ghost use Rattle.bus_wire.specs.Sides.{SideFits, SideFollows, SidePasses, SideStands, IsUnsent, Shows, with_shown};
 
 use crate::transmitter::{Driven, LONGEST, Transmitter, is_since, sample_on};
 use bus_base::{Channel, Drive, Sample};
@@ -88,6 +88,21 @@ impl Side {
         let after = transmitter.follow(faults, commands, driven);
         self.extra = transmitter.extra_since(self.extra);
         after
+    }
+
+    /// A station drives the channel, and goes on with a transmission that no fault strikes, while no extra may add to the channel. False where that isn't
+    /// so: then the channel is as it was.
+    #[inline(always)]
+    pub fn pass(&mut self, station: usize, tick: u64, last: bool) -> bool
+        requires { station < 32 }
+        ensures { SidePasses station tick last self.old self.new result }
+    {
+        if self.may_add(tick) || !self.transmitters[station].passes(tick) {
+            return false;
+        }
+        self.driven = Some(tick);
+        self.transmitters[station].drive(tick, last);
+        true
     }
 
     /// What this channel shows in this tick, the newest, of what the stations drive: the first station in their order that counts as driving
@@ -196,9 +211,9 @@ impl Side {
         !is_since(self.driven, tick) && !self.may_add(tick)
     }
 
-    // Whether an extra may add to a transmission of the channel in this tick: the fail-safe hasn't stopped all of them.
+    /// Whether an extra may add to a transmission of the channel in this tick: the fail-safe hasn't stopped all of them.
     #[inline(always)]
-    fn may_add(&self, tick: u64) -> bool
+    pub fn may_add(&self, tick: u64) -> bool
         ensures { result ≡ may_add tick self.now.extra }
     {
         match self.extra {

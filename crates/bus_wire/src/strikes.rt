@@ -72,9 +72,9 @@ impl Strikes {
         self.struck(faults, place, sample)
     }
 
-    // Whether no fault is in its range.
+    /// Whether no fault is in its range.
     #[inline(always)]
-    fn is_empty(&self) -> bool
+    pub fn is_empty(&self) -> bool
         ensures { result ≡ nat_le self.now.until self.now.from }
     {
         self.until <= self.from

@@ -4,6 +4,7 @@ ghost use Rattle.bus_model.specs.Wire as spec;
 ghost use Rattle.bus_model.specs.Strikes.{hits_on};
 ghost use Rattle.bus_wire.specs.Newest.{since};
 ghost use Rattle.bus_wire.specs.Steps.{goes_on, driven_by, added_of, is_added, ends_by, sends_command, shown_or, driven_sample, extra_with};
+ghost use Rattle.bus_wire.specs.Steps as steps;
 ghost use Rattle.bus_wire.specs.Stands.{AreStrikes, Unsent, Begins, Follows};
 
 use crate::strikes::Strikes;
@@ -55,7 +56,7 @@ impl Transmitter {
         ensures { Follows faults.now commands driven (goes_on faults.now driven.tick self.old) self.old self.new result }
     {
         if self.goes_on(faults, driven.tick) {
-            self.drive(driven);
+            self.drive(driven.tick, driven.last);
             return commands;
         }
         self.begin(faults, commands, driven)
@@ -78,7 +79,7 @@ impl Transmitter {
             last: None,
             strikes: Strikes::of(faults, attempt, driven.part),
         };
-        self.drive(driven);
+        self.drive(driven.tick, driven.last);
         attempt
     }
 
@@ -98,12 +99,22 @@ impl Transmitter {
         }
     }
 
-    fn drive(&mut self, driven: Driven)
-        ensures { self.new ≡ driven_by driven.tick driven.last self.old }
+    /// Whether a sample in this tick goes on with the transmission, and no fault strikes that.
+    #[inline(always)]
+    pub fn passes(&self, tick: u64) -> bool
+        ensures { result ≡ steps.passes tick self.now }
     {
-        self.drove = Some(driven.tick);
-        if self.last.is_none() && driven.last {
-            self.last = Some(driven.tick);
+        is_next(self.drove, tick) && self.strikes.is_empty()
+    }
+
+    /// The station drives the channel in this tick, and its transmission goes on.
+    #[inline(always)]
+    pub fn drive(&mut self, tick: u64, last: bool)
+        ensures { self.new ≡ driven_by tick last self.old }
+    {
+        self.drove = Some(tick);
+        if self.last.is_none() && last {
+            self.last = Some(tick);
         }
     }
 
@@ -218,6 +229,17 @@ pub(crate) fn is_since(tick: Option<u64>, from: u64) -> bool
 {
     match tick {
         Some(tick) => from <= tick,
+        None => false,
+    }
+}
+
+// Whether a tick is the one after another, if that is known.
+#[inline(always)]
+fn is_next(drove: Option<u64>, tick: u64) -> bool
+    ensures { result ≡ steps.is_next drove tick }
+{
+    match drove {
+        Some(drove) => tick.saturating_sub(drove) == 1,
         None => false,
     }
 }

@@ -1,5 +1,5 @@
 //! The wire. It keeps no list of what was driven: for each station and channel it keeps the newest transmission.
-ghost use Rattle.std.specs.Prelude.{◌≡◌, ◌<◌, ◌≤◌, ◌^◌, ◌+◌, List, [], ◌∷◌, length, slice_get, Some};
+ghost use Rattle.std.specs.Prelude.{◌≡◌, ◌<◌, ◌≤◌, ◌^◌, ◌+◌, List, [], ◌∷◌, length, slice_get, Some, None};
 ghost use Rattle.bus_base.specs.declared.samples.Channel.TheVariants.{A, B};
 ghost use Rattle.bus_base.specs.declared.samples.Drive.{Drive};
 ghost use Rattle.bus_formats.specs.declared.fault.Fault.{Fault};
@@ -7,10 +7,13 @@ ghost use Rattle.bus_model.specs.Wire as spec;
 ghost use Rattle.bus_wire.specs.Places.{AreRising, AreSilentBeside};
 ghost use Rattle.bus_wire.specs.Sides.{Shows};
 ghost use Rattle.bus_wire.specs.WireStands.{WireStands, FollowsTo};
+ghost use Rattle.bus_wire.specs.Passing.{WirePasses, ShowsAll};
+ghost use Rattle.bus_wire.specs.Passing as passing;
+ghost use Rattle.bus_wire.specs.declared.wire.Shown.{Shown as ShownData};
 
 use crate::side::{OnChannel, Side};
 use crate::transmitter::Driven;
-use bus_base::{Channel, Drive, Pair};
+use bus_base::{Channel, Drive, Pair, Sample};
 use bus_formats::Fault;
 
 /// What the channels show in a tick, and how many stations count as driving A and B: those that drive it, and those whose words of an
@@ -86,6 +89,86 @@ impl Wire {
         ensures drivers { (faults : List Fault) (driven : List (List Drive)) → WireStands faults self.old driven →
             result.drivers ≡ spec.drivers faults A (drives.now ∷ driven) ∷ spec.drivers faults B (drives.now ∷ driven) ∷ [] }
     {
+        match self.show_only(drives, places) {
+            Some(shown) => shown,
+            None => self.show_several(drives, places),
+        }
+    }
+
+    // What is shown where one station alone may drive, and goes on with a transmission that no fault strikes, while no extra may add to a channel. None
+    // where that isn't so: then nothing is kept.
+    #[inline(always)]
+    fn show_only(&mut self, drives: &[Drive], places: &[u8]) -> Option<Shown>
+        requires few { length drives.now ≤ 32 }
+        requires rising { AreRising 0 (length drives.now) places.now }
+        requires silent { AreSilentBeside 0 places.now drives.now }
+        requires stands { (faults : List Fault) × (driven : List (List Drive)) × WireStands faults self.old driven × (length driven < 2 ^ 60) }
+        ensures same { result ≡ None → self.new ≡ self.old }
+        ensures shows { (faults : List Fault) (driven : List (List Drive)) (shown : ShownData) → result ≡ Some shown → WireStands faults self.old driven →
+            ShowsAll faults (drives.now ∷ driven) self.new shown }
+    {
+        if places.len() != 1 {
+            return None;
+        }
+        let station = usize::from(places[0]);
+        match drives[station] {
+            Drive::Silent => None,
+            Drive::On {
+                channel,
+                sample,
+                last,
+                ..
+            } => {
+                if self.pass(station, channel, last) {
+                    Some(alone(channel, sample))
+                } else {
+                    None
+                }
+            }
+        }
+    }
+
+    // The station that alone drives in the tick to come goes on with a transmission that no fault strikes, while no extra may add to a channel. False where
+    // that isn't so: then nothing is kept.
+    #[inline(always)]
+    fn pass(&mut self, station: usize, channel: Channel, last: bool) -> bool
+        requires station { station < 32 }
+        requires small { self.old.next < 2 ^ 60 }
+        ensures { WirePasses station channel last self.old self.new result }
+    {
+        let tick = self.next;
+        match channel {
+            Channel::A => {
+                if self.b.may_add(tick) || !self.a.pass(station, tick, last) {
+                    return false;
+                }
+                self.next = tick + 1;
+                true
+            }
+            Channel::B => {
+                if self.a.may_add(tick) || !self.b.pass(station, tick, last) {
+                    return false;
+                }
+                self.next = tick + 1;
+                true
+            }
+        }
+    }
+
+    // What is shown of the stations at these places, of which several may drive, or faults may strike what they do.
+    #[inline(never)]
+    fn show_several(&mut self, drives: &[Drive], places: &[u8]) -> Shown
+        requires few { length drives.now ≤ 32 }
+        requires rising { AreRising 0 (length drives.now) places.now }
+        requires silent { AreSilentBeside 0 places.now drives.now }
+        requires stands { (faults : List Fault) × (driven : List (List Drive)) × WireStands faults self.old driven × (length driven < 2 ^ 60) }
+        ensures stands { (faults : List Fault) (driven : List (List Drive)) → WireStands faults self.old driven →
+            WireStands faults self.new (drives.now ∷ driven) }
+        ensures pair { (faults : List Fault) (driven : List (List Drive)) → WireStands faults self.old driven →
+            result.pair ≡ spec.shown faults (drives.now ∷ driven) }
+        ensures drivers { (faults : List Fault) (driven : List (List Drive)) → WireStands faults self.old driven →
+            result.drivers ≡ spec.drivers faults A (drives.now ∷ driven) ∷ spec.drivers faults B (drives.now ∷ driven) ∷ [] }
+    {
         self.follow_among(drives, places);
         let a = self.on_among(Channel::A, drives, places);
         let b = self.on_among(Channel::B, drives, places);
@@ -115,6 +198,7 @@ impl Wire {
     }
 
     // What a channel shows in the newest tick, in which the stations at these places alone may drive.
+    #[inline(always)]
     fn on_among(&self, channel: Channel, drives: &[Drive], places: &[u8]) -> OnChannel
         requires few { length drives.now ≤ 32 }
         requires rising { AreRising 0 (length drives.now) places.now }
@@ -196,5 +280,28 @@ impl Wire {
                 .b
                 .shown(channel, &self.faults, tick, self.a.driven(), drives),
         }
+    }
+}
+
+// One station drives a channel, and the other is quiet.
+#[inline(always)]
+fn alone(channel: Channel, sample: Sample) -> Shown
+    ensures { result ≡ passing.alone channel sample }
+{
+    match channel {
+        Channel::A => Shown {
+            pair: Pair {
+                a: sample,
+                b: Sample::Quiet,
+            },
+            drivers: [1, 0],
+        },
+        Channel::B => Shown {
+            pair: Pair {
+                a: Sample::Quiet,
+                b: sample,
+            },
+            drivers: [0, 1],
+        },
     }
 }
