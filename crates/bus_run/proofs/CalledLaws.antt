@@ -1,5 +1,5 @@
 -- The places of the stations that are called.
-use Rattle.std.proofs.Common.{◌≡◌, ◌≢◌, ℕ, suc, ◌<◌, ◌+◌, ◌==◌, ◌||◌, ◌&&◌, Bool, true, false, List, [], ◌∷◌, ◌++◌, length, Some, None, zero, refl, sym, ap, ◌∙◌, subst, inl, inr, ◌⊎◌, arith, add-one, get_or}
+use Rattle.std.proofs.Common.{◌≡◌, ◌≢◌, ℕ, suc, ◌<◌, ◌≤◌, ◌+◌, ◌==◌, ◌||◌, ◌&&◌, Bool, true, false, List, [], ◌∷◌, ◌++◌, length, Some, None, zero, refl, sym, ap, ◌∙◌, subst, inl, inr, ◌⊎◌, arith, add-one, get_or}
 use Rattle.std.specs.Prelude.{slice_get}
 use Rattle.std.proofs.lemmas.Bool.{cases_eq, eqb-true, eq-eqb}
 use Rattle.std.proofs.lemmas.Option.{slice_get_within, slice_get-get_or, slice_get_read, same_Some}
@@ -13,6 +13,11 @@ use Rattle.bus_run.specs.Called.{AreCalled}
 pub rising-more : (from end : ℕ) (places : List ℕ) → AreRising from end places → AreRising from (suc end) places
 rising-more from end [] rising = omega (arith, rising)
 rising-more from end (place ∷ places) rising = (rising.0, rising-more (suc place) end places rising.1)
+
+-- .. and below any later one
+pub rising-to : (from end next : ℕ) (places : List ℕ) → end ≤ next → AreRising from end places → AreRising from next places
+rising-to from end next [] low rising = omega (arith, low, rising)
+rising-to from end next (place ∷ places) low rising = (rising.0, rising-to (suc place) end next places low rising.1)
 
 -- with that one at the end they rise
 pub rising-push : (from end : ℕ) (places : List ℕ) → AreRising from end places → AreRising from (suc end) (places ++ end ∷ [])

@@ -1,11 +1,11 @@
 -- The drives of the stations that are called, place by place.
-use Rattle.std.proofs.Common.{◌≡◌, ◌≢◌, ℕ, zero, suc, ◌+◌, ◌<◌, ◌==◌, ◌||◌, Bool, true, false, List, [], ◌∷◌, ◌++◌, length, take, drop, map, Some, None, refl, sym, ap, ◌∙◌, subst, inl, inr, ◌⊎◌, arith, add-one}
+use Rattle.std.proofs.Common.{◌≡◌, ◌≢◌, ℕ, zero, suc, ◌+◌, ◌<◌, ◌≤◌, ◌==◌, ◌||◌, Bool, true, false, List, [], ◌∷◌, ◌++◌, length, take, drop, map, Some, None, refl, sym, ap, ◌∙◌, subst, inl, inr, ◌⊎◌, arith, add-one}
 use Rattle.std.specs.Prelude.{set, slice_get, option_map, if◌then◌else◌}
 use Rattle.std.proofs.lemmas.Bool.{cases_eq, cases_Bool, eqb-true, eq-eqb}
 use Rattle.std.proofs.lemmas.List.{length-set, length-map}
 use Rattle.std.proofs.lemmas.Option.{slice_get_within, slice_get-map, same_Some}
 use Rattle.bus_base.specs.declared.samples.Drive.{Drive}
-use Rattle.bus_base.specs.declared.samples.Drive.TheVariants.{Silent}
+use Rattle.bus_base.specs.declared.samples.Drive.TheVariants.{Silent, On}
 use Rattle.bus_base.specs.declared.samples.Pair.{Pair}
 use Rattle.bus_line.specs.declared.cutter.TheConstants.{LAG}
 use Rattle.bus_formats.specs.Plans.{StationData}
@@ -14,12 +14,12 @@ use Rattle.bus_model.specs.Starts.{starts}
 use Rattle.bus_model.specs.World.{is_present, drive_after, drives_after}
 use Rattle.bus_station.specs.declared.station.Station.{Station}
 use Rattle.bus_station.proofs.Waits.{station-silent}
-use Rattle.bus_wire.specs.Places.{is_among}
+use Rattle.bus_wire.specs.Places.{AreRising, is_among}
 use Rattle.bus_wire.proofs.WireLaws.{drop-next}
 use Rattle.bus_run.specs.Called.{AreCalled}
 use Rattle.bus_run.specs.Parts.{StationsStandIn, presence}
 use Rattle.bus_run.specs.Settings.{Setting}
-use Rattle.bus_run.specs.Driven.{IsDriveOf, AreSilentBut, AreDriven}
+use Rattle.bus_run.specs.Driven.{IsDriveOf, AreSilentBut, AreDriven, is_on}
 use Rattle.bus_run.proofs.CalledLaws.{among-push, either-of, neither-of}
 use Rattle.bus_run.proofs.RowLaws.{take-next, set-same, set-other, found-at}
 
@@ -69,6 +69,34 @@ pub driven-more : (stations : List Station) (places : List ℕ) (drives : List D
 driven-more stations places drives n place value drive at here is st =
     let more : take (n + 1) places ≡ take n places ++ place ∷ [] = ap (λ m. take m places) (add-one n) ∙ take-next places n place at in
     subst (λ (ps : List ℕ). AreDriven stations ps (set drives place drive)) (sym more) (driven-one stations (take n places) drives place value drive here is st)
+
+-- ---- those of them that drive a channel
+
+pub off-silent : (drive : Drive) → is_on drive ≡ false → drive ≡ Silent
+off-silent Silent h = refl
+off-silent (On channel sample part last) h = absurd (cc)
+
+-- a silent drive is written
+pub silent-set : (places : List ℕ) (drives : List Drive) (place : ℕ) (drive : Drive) → place < length drives → drive ≡ Silent → AreSilentBut places drives →
+    AreSilentBut places (set drives place drive)
+silent-set places drives place drive within off st = λ i d at none. elim (cases_eq i place) [
+  | inl same ↦ sym (same_Some drive d (sym (set-same drives place drive within) ∙ subst (λ (j : ℕ). slice_get (set drives place drive) j ≡ Some d) same at)) ∙ off
+  | inr other ↦ st i d (sym (set-other drives place i drive other) ∙ at) none
+]
+
+-- another is, and its place is named
+pub silent-with : (places : List ℕ) (drives : List Drive) (place : ℕ) (drive : Drive) → AreSilentBut places drives →
+    AreSilentBut (places ++ place ∷ []) (set drives place drive)
+silent-with places drives place drive st = λ i d at none.
+    let both = neither-of (is_among i places) (place == i) (sym (among-push i place places) ∙ none) in
+    st i d (sym (set-other drives place i drive (apart i place both.1)) ∙ at) both.0
+
+-- the next of the places to come
+pub rising-next : (from end : ℕ) (places : List ℕ) (n place : ℕ) → slice_get places n ≡ Some place → AreRising from end (drop n places) →
+    (from ≤ place) × AreRising (place + 1) end (drop (n + 1) places)
+rising-next from end places n place at rising =
+    let rest : drop n places ≡ place ∷ drop (n + 1) places = drop-next places n place at ∙ ap (λ m. place ∷ drop m places) (sym (add-one n)) in
+    let both = subst (λ (ps : List ℕ). AreRising from end ps) rest rising in (both.0, rw add-one both.1)
 
 -- ---- they are made silent again
 

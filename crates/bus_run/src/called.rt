@@ -3,7 +3,8 @@ ghost use Rattle.std.specs.Prelude.{◌≡◌, ◌≤◌, ◌&&◌, [], length};
 ghost use Rattle.bus_station.specs.Needs.{needs_each_tick};
 ghost use Rattle.bus_wire.specs.Places.{AreRising};
 ghost use Rattle.bus_run.specs.Called.{AreCalled};
-ghost use Rattle.bus_run.specs.Driven.{AreDriven, AreSilentBut};
+ghost use Rattle.bus_run.specs.Driven.{AreDriven, AreDriving, AreSilentBut};
+ghost use Rattle.bus_run.specs.Driven as driven;
 
 use arrayvec::ArrayVec;
 use bus_base::Drive;
@@ -31,20 +32,42 @@ fn is_called(station: &Station, present: bool) -> bool
     present && station.needs_each_tick()
 }
 
-/// What the stations at these places drive in the tick to come, where all drives are silent.
-pub(crate) fn drive_called(stations: &[Station], places: &[u8], drives: &mut [Drive])
+/// What the stations at these places drive in the tick to come, where all drives are silent. It answers the places of those that drive a channel.
+#[inline(always)]
+pub(crate) fn drive_called(
+    stations: &[Station],
+    places: &[u8],
+    drives: &mut [Drive],
+) -> ArrayVec<u8, 32>
+    requires few { length stations.now ≤ 32 }
     requires all { length drives.old ≡ length stations.now }
     requires rising { AreRising 0 (length stations.now) places.now }
     requires silent { AreSilentBut [] drives.old }
-    ensures { AreDriven stations.now places.now drives.new }
+    ensures drives { AreDriven stations.now places.now drives.new }
+    ensures driving { AreDriving (length stations.now) drives.new result.items }
 {
+    let mut driving = ArrayVec::new();
     for place in places {
         let station = usize::from(*place);
-        drives[station] = stations[station].drive();
+        let drive = stations[station].drive();
+        drives[station] = drive;
+        if is_on(drive) {
+            driving.push(*place);
+        }
     }
+    driving
+}
+
+// Whether a station drives a channel.
+#[inline(always)]
+fn is_on(drive: Drive) -> bool
+    ensures { result ≡ driven.is_on drive }
+{
+    matches!(drive, Drive::On { .. })
 }
 
 /// The drives at these places are silent again, as all others are.
+#[inline(always)]
 pub(crate) fn silence(places: &[u8], drives: &mut [Drive])
     requires rising { AreRising 0 (length drives.old) places.now }
     requires silent { AreSilentBut places.now drives.old }

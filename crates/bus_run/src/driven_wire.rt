@@ -10,12 +10,13 @@ ghost use Rattle.bus_model.specs.Wire as spec;
 ghost use Rattle.bus_model.specs.World.{is_present, drive_after, drives_after};
 ghost use Rattle.bus_station.specs.StationStands.{StationKeeps};
 ghost use Rattle.bus_run.specs.Called.{AreCalled};
-ghost use Rattle.bus_run.specs.Driven.{AreDriven, AreSilentBut};
+ghost use Rattle.bus_run.specs.Driven.{AreDriven, AreDriving, AreSilentBut};
 ghost use Rattle.bus_wire.specs.Places.{AreRising};
 ghost use Rattle.bus_run.specs.Parts.{StationsStandIn, DrivenWireStands, presence};
 ghost use Rattle.bus_run.specs.Settings.{Setting};
 
 use crate::called::{drive_called, silence};
+use arrayvec::ArrayVec;
 use bus_base::{Drive, Pair};
 use bus_formats::Fault;
 use bus_station::Station;
@@ -56,26 +57,31 @@ impl DrivenWire {
             AreCalled (presence w) stations.now places.now → DrivenWireStands w.plan self.old driven →
             DrivenWireStands w.plan self.new (drives_after LAG w.plan w.loads w.outside w.absent past ∷ driven) }
     {
-        self.drive(stations, places);
-        let shown = self.wire.show_among(&self.drives, places);
-        self.silence(places);
+        let driving = self.drive(stations, places);
+        let among = driving.as_slice();
+        let shown = self.wire.show_among(&self.drives, among);
+        self.silence(among);
         self.clashes = clashes_after(self.clashes, shown.drivers);
         shown.pair
     }
 
-    // Keeps what the stations at these places drive in the tick to come.
-    fn drive(&mut self, stations: &[Station], places: &[u8])
+    // Keeps what the stations at these places drive in the tick to come, and answers which of them drive a channel.
+    #[inline(always)]
+    fn drive(&mut self, stations: &[Station], places: &[u8]) -> ArrayVec<u8, 32>
+        requires few { length stations.now ≤ 32 }
         requires all { length self.old.drives.items ≡ length stations.now }
         requires rising { AreRising 0 (length stations.now) places.now }
         requires silent { AreSilentBut [] self.old.drives.items }
         ensures drives { AreDriven stations.now places.now self.new.drives.items }
+        ensures driving { AreDriving (length stations.now) self.new.drives.items result.items }
         ensures wire { self.new.wire ≡ self.old.wire }
         ensures clashes { self.new.clashes ≡ self.old.clashes }
     {
-        drive_called(stations, places, &mut self.drives);
+        drive_called(stations, places, &mut self.drives)
     }
 
     // That was shown.
+    #[inline(always)]
     fn silence(&mut self, places: &[u8])
         requires rising { AreRising 0 (length self.old.drives.items) places.now }
         requires silent { AreSilentBut places.now self.old.drives.items }

@@ -3,7 +3,6 @@ ghost use Rattle.std.specs.Prelude.{◌≡◌, ◌≤◌, ◌<◌, ◌^◌, ◌+
 ghost use Rattle.bus_base.specs.declared.samples.Channel.TheVariants.{A, B};
 ghost use Rattle.bus_base.specs.declared.samples.Pair.{Pair};
 ghost use Rattle.bus_line.specs.declared.cutter.TheConstants.{LAG};
-ghost use Rattle.bus_monitor.specs.Listers.{heard_in};
 ghost use Rattle.bus_monitor.specs.Progress.{heard_now};
 ghost use Rattle.bus_receiver.specs.Moments.{moment_of};
 ghost use Rattle.bus_run.specs.BurstListers.{BurstListerStands, burst_on};
@@ -11,9 +10,9 @@ ghost use Rattle.bus_run.specs.Monitors.{MonitorStands, ListsStand};
 
 use crate::burst_lister::BurstLister;
 use crate::room::push_found;
-use bus_base::{Channel, Tick};
+use bus_base::Channel;
 use bus_formats::{Heard, HeardBurst};
-use bus_line::Cut;
+use bus_monitor::word_in;
 use bus_receiver::Moment;
 
 /// A monitor (MIL-STD-1553B 4.4.4): the valid words and the bursts of both channels so far, and for how many ticks both have been quiet.
@@ -135,22 +134,5 @@ impl Monitor {
         ensures { result.now ≡ self.now.bursts.items }
     {
         &self.bursts
-    }
-}
-
-// The valid word that ends in this tick, which is the last of its forty.
-fn word_in(cut: Cut, channel: Channel, tick: u64) -> Option<Heard>
-    ensures { result ≡ heard_in cut channel tick }
-{
-    match cut {
-        Cut::Slot {
-            word: Some(word),
-            ..
-        } => Some(Heard {
-            tick: Tick(tick.saturating_sub(39)),
-            channel,
-            word,
-        }),
-        _ => None,
     }
 }
