@@ -1,5 +1,5 @@
 -- The run of a plan comes to its end within the attempts that its items can have.
-use Rattle.std.proofs.Common.{◌≡◌, ◌⊎◌, inl, inr, ℕ, zero, suc, ◌+◌, ◌<◌, ◌≤◌, List, [], ◌∷◌, length, refl, sym, ap, subst, arith}
+use Rattle.std.proofs.Common.{◌≡◌, ◌⊎◌, inl, inr, ℕ, zero, suc, ◌+◌, ◌<◌, ◌≤◌, List, [], ◌∷◌, length, refl, sym, ap, ◌∙◌, subst, arith}
 use Rattle.std.proofs.lemmas.List.Sums.{sum_by-cons}
 use Rattle.std.specs.Prelude.{map, find, sum_by, Some, None}
 use Rattle.bus_formats.specs.Plans.{StationData, PlanData}
@@ -10,7 +10,7 @@ use Rattle.bus_retry.specs.declared.Choice.TheVariants.{Again, Done}
 use Rattle.bus_model.specs.Memory.{TimedLoad}
 use Rattle.bus_model.specs.Starts.{Entry, agenda}
 use Rattle.bus_model.specs.Attempts.{Begun}
-use Rattle.bus_model.specs.Message.{Message}
+use Rattle.bus_model.specs.Message.{Present, Message}
 use Rattle.bus_model.specs.Run.{Run, Next, is_at, next_item, with_message, next_attempt, attempt, attempts_after, most_attempts, first_run, first_present, run_of}
 use Rattle.bus_model.proofs.OneAttempt.{attempt-none, attempt-adds}
 use Rattle.std.proofs.lemmas.Option.{none-some}
@@ -76,19 +76,38 @@ first-left plan (s ∷ stations) =
     let cons = sum_by-cons (λ (station : StationData). sum_by (λ entry. 1 + length entry.item.retry) (agenda station)) s stations in
     omega (arith, own, rest, cons)
 
+stations-left : (stations : List Present) →
+    sum_by (λ station. sum_by (λ entry. 1 + length entry.item.retry) station.left) stations ≡ attempts-left stations
+stations-left [] = refl
+stations-left (s ∷ stations) =
+    let own : sum_by (λ entry. 1 + length entry.item.retry) s.left ≡ attempts-of s.left = sum-attempts s.left in
+    let rest = stations-left stations in
+    let cons = sum_by-cons (λ (station : Present). sum_by (λ entry. 1 + length entry.item.retry) station.left) s stations in
+    omega (arith, own, rest, cons)
+
+live-ends : (k : ℕ) (loads : List TimedLoad) (faults : List Fault) (most : ℕ) (run : Run) → Live most 0 run →
+    next_item (attempts_after k loads faults most run) ≡ None
+live-ends k loads faults most run live = elim (goes-on k loads faults most most run live) [
+  | inl over ↦ over
+  | inr on ↦ elim (cases-option (next_item (attempts_after k loads faults most run))) [
+    | inl over ↦ over
+    | inr next ↦ absurd (omega (arith, some-left most most _ next.0 on next.1))
+  ]
+]
+
+-- from any moment at which no retry is due, at most as many attempts as the items left can have
+pub ends-from : (k : ℕ) (loads : List TimedLoad) (faults : List Fault) (most : ℕ) (run : Run) → run.retry ≡ None →
+    sum_by (λ station. sum_by (λ entry. 1 + length entry.item.retry) station.left) run.stations ≤ most → next_item (attempts_after k loads faults most run) ≡ None
+ends-from k loads faults most run none few =
+    let same = stations-left run.stations in
+    live-ends k loads faults most run record { bound = omega (arith, same, few); due = λ state h. absurd (none-some state (sym none ∙ h)) }
+
 -- at most so many attempts
 pub run-ends : (k : ℕ) (loads : List TimedLoad) (plan : PlanData) → next_item (run_of k loads plan) ≡ None
 unfolding run_of
 run-ends k loads plan =
-    let most = most_attempts plan in
-    let live : Live most 0 (first_run plan) = record { bound = omega (arith, first-left plan plan.stations); due = λ state h. absurd (none-some state h) } in
-    elim (goes-on k loads plan.faults most most (first_run plan) live) [
-      | inl over ↦ over
-      | inr on ↦ elim (cases-option (next_item (attempts_after k loads plan.faults most (first_run plan)))) [
-        | inl over ↦ over
-        | inr next ↦ absurd (omega (arith, some-left most most _ next.0 on next.1))
-      ]
-    ]
+    live-ends k loads plan.faults (most_attempts plan) (first_run plan)
+    record { bound = omega (arith, first-left plan plan.stations); due = λ state h. absurd (none-some state h) }
 
 attempts-few : (k : ℕ) (loads : List TimedLoad) (faults : List Fault) (n : ℕ) (run : Run) →
     length (attempts_after k loads faults n run).attempts ≤ n + length run.attempts

@@ -1,6 +1,6 @@
 //! How the run of a plan goes on: one attempt after the other. Laws alone, each the contract of an empty function.
 
-ghost use Rattle.std.specs.Prelude.{◌≡◌, ℕ, ◌≤◌, List, ◌∷◌, length, Some, None};
+ghost use Rattle.std.specs.Prelude.{◌≡◌, ℕ, ◌+◌, ◌≤◌, List, ◌∷◌, length, sum_by, Some, None};
 ghost use Rattle.bus_formats.specs.Plans.{PlanData};
 ghost use Rattle.bus_formats.specs.declared.fault.Fault.{Fault};
 ghost use Rattle.bus_formats.specs.declared.log.Attempt.{Attempt};
@@ -21,8 +21,10 @@ pub fn a_finished_run_stays()
 {}
 
 /// The run of a plan comes to an end: at last the station that holds control has no item left, after no more attempts than one for each item
-/// and one for each entry of its retry list.
+/// and one for each entry of its retry list. So it is of any run from a moment on in which no retry is due, of the items that are left then.
 pub fn a_run_comes_to_an_end()
     ensures ends { (k : ℕ) (loads : List TimedLoad) (plan : PlanData) → next_item (run_of k loads plan) ≡ None }
     ensures few { (k : ℕ) (loads : List TimedLoad) (plan : PlanData) → length (run_of k loads plan).attempts ≤ most_attempts plan }
+    ensures from { (k : ℕ) (loads : List TimedLoad) (faults : List Fault) (most : ℕ) (run : Run) → run.retry ≡ None →
+        sum_by (λ station. sum_by (λ entry. 1 + length entry.item.retry) station.left) run.stations ≤ most → next_item (attempts_after k loads faults most run) ≡ None }
 {}
