@@ -154,7 +154,7 @@ taker-next holder address before later s all found other some =
     subst (λ o. IsSome (next_by o)) (sym there.1)
     (next-some there.0 there.0.left (ap has_items (there.2.1 other) ∙ some))
 
-never-taking : (outcome : Outcome) (channel : Channel) (tick at : ℕ) → opening_after outcome channel tick ≡ taking at → ⊥
+pub never-taking : (outcome : Outcome) (channel : Channel) (tick at : ℕ) → opening_after outcome channel tick ≡ taking at → ⊥
 never-taking Clear channel tick at is = cc
 never-taking Sent channel tick at is = cc
 never-taking Declined channel tick at is = cc
@@ -167,7 +167,7 @@ never-taking Abandoned channel tick at is = cc
 never-taking Yielded channel tick at is = cc
 
 -- exactly the holder doesn't serve
-serves-not : (plan : PlanData) (holder : ℕ) (own : List StationData) (stations : List Present) → AreStationsOf plan holder own stations →
+pub serves-not : (plan : PlanData) (holder : ℕ) (own : List StationData) (stations : List Present) → AreStationsOf plan holder own stations →
     Each (λ s. s.serves ≡ not (is_at holder s)) stations
 serves-not plan holder own stations all =
     zip-second (λ (o : StationData) (s : Present). IsStationOf plan (not (o.terminal.address == holder)) o s) (λ s. s.serves ≡ not (is_at holder s))

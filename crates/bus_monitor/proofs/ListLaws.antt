@@ -21,7 +21,7 @@ left-some input left count going =
     let same : length (reverse input) ≡ length input = length-reverse input in
     omega (arith, few, same, count)
 
-pub room-some : (piece : List ℕ) (left room : ℕ) → length piece ≡ 4096 → 0 < left → room ≡ min left 4096 →
+pub room-some : (piece : List ℕ) (left room : ℕ) → length piece ≡ 32768 → 0 < left → room ≡ min left 32768 →
     (0 < length (take room piece)) × (length (take room piece) ≤ left)
 room-some piece left room whole some is =
     let long : length (take room piece) ≡ min room (length piece) = length-take room piece in

@@ -11,7 +11,7 @@ use bus_outside::{Sink, Source};
 const MOST_BYTES: u64 = 8_589_934_593;
 
 // The bytes of a piece.
-const PIECE: u64 = 4096;
+const PIECE: u64 = 32768;
 
 /// Lists what the source has to its end, and hands the lister back, which then stands for all ticks of the capture.
 pub fn list_by<L: Lister + Drop, S: Source, K: Sink>(
@@ -41,7 +41,7 @@ pub fn list_from<L: Lister + Drop, S: Source, K: Sink>(
     ensures cause { ListingHasCause (S.faults source.old) (S.faults source.new) (K.faults sink.old) (K.faults sink.new) result.0 }
 {
     let mut writer = ListingWriter::new(lister, text);
-    let mut piece = [0u8; 4096];
+    let mut piece = [0u8; 32768];
     let listing = read_all(&mut writer, &mut piece, source, sink);
     (listing, writer.into_lister())
 }
@@ -68,7 +68,7 @@ fn read_all<L: Lister, S: Source, K: Sink>(
     source: &mut S,
     sink: &mut K,
 ) -> Listing
-    requires piece { length piece.old ≡ 4096 }
+    requires piece { length piece.old ≡ 32768 }
     requires nothing { Follows L.stands L.lines writer.old [] (K.held sink.old) (K.held sink.old) }
     ensures listed { IsListedBy L.stands L.lines L.whole (S.left source.old) (S.left source.new) (K.held sink.old) (K.held sink.new) writer.new.lister result }
     ensures cause { ListingHasCause (S.faults source.old) (S.faults source.new) (K.faults sink.old) (K.faults sink.new) result }

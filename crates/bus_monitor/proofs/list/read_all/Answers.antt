@@ -9,13 +9,13 @@ pieces-init g c = ([], Consumes-nil (g.S.Source.left c.args.source.now), omega a
 pub read_piece-requires-clause-some : goal.read_piece-requires-clause-some
 read_piece-requires-clause-some g c =
     let inv = c.pieces.invariant in
-    let whole : length c.pieces.piece ≡ 4096 = omega (arith, c.pieces.auto.piece, c.requires.piece) in
+    let whole : length c.pieces.piece ≡ 32768 = omega (arith, c.pieces.auto.piece, c.requires.piece) in
     (room-some c.pieces.piece c.pieces.left c.min-room.result whole (left-some inv.0 c.pieces.left inv.2 inv.3.holds.going) c.min-room.ensures).0
 
 pub overflow_sub-left : goal.overflow_sub-left
 overflow_sub-left g c =
     let inv = c.pieces.invariant in
-    let whole : length c.pieces.piece ≡ 4096 = omega (arith, c.pieces.auto.piece, c.requires.piece) in
+    let whole : length c.pieces.piece ≡ 32768 = omega (arith, c.pieces.auto.piece, c.requires.piece) in
     let room : length (take c.min-room.result c.pieces.piece) ≤ c.pieces.left =
     (room-some c.pieces.piece c.pieces.left c.min-room.result whole (left-some inv.0 c.pieces.left inv.2 inv.3.holds.going) c.min-room.ensures).1 in
     let read = c.in-Ok.ensures.read (reverse inv.0) (g.K.Sink.held c.args.sink.now) inv.3 in
@@ -31,7 +31,7 @@ pieces-smaller g c =
 pub pieces-preserved : goal.pieces-preserved
 pieces-preserved g c =
     let inv = c.pieces.invariant in
-    let whole : length c.pieces.piece ≡ 4096 = omega (arith, c.pieces.auto.piece, c.requires.piece) in
+    let whole : length c.pieces.piece ≡ 32768 = omega (arith, c.pieces.auto.piece, c.requires.piece) in
     let room : length (take c.min-room.result c.pieces.piece) ≤ c.pieces.left =
     (room-some c.pieces.piece c.pieces.left c.min-room.result whole (left-some inv.0 c.pieces.left inv.2 inv.3.holds.going) c.min-room.ensures).1 in
     let more = piece-more g.L.Lister.stands g.L.Lister.lines g.L.Lister.whole (g.K.Sink.held c.args.sink.now) (g.K.Sink.held c.read_piece.new.sink) c.read_piece.new.self
@@ -43,7 +43,7 @@ pieces-preserved g c =
 pub returns-in-Err-clause-listed : goal.returns-in-Err-clause-listed
 returns-in-Err-clause-listed g c =
     let inv = c.pieces.invariant in
-    let whole : length c.pieces.piece ≡ 4096 = omega (arith, c.pieces.auto.piece, c.requires.piece) in
+    let whole : length c.pieces.piece ≡ 32768 = omega (arith, c.pieces.auto.piece, c.requires.piece) in
     let room : length (take c.min-room.result c.pieces.piece) ≤ c.pieces.left =
     (room-some c.pieces.piece c.pieces.left c.min-room.result whole (left-some inv.0 c.pieces.left inv.2 inv.3.holds.going) c.min-room.ensures).1 in
     piece-last g.L.Lister.stands g.L.Lister.lines g.L.Lister.whole (g.K.Sink.held c.args.sink.now) (g.K.Sink.held c.read_piece.new.sink) c.read_piece.new.self
